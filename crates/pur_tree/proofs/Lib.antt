@@ -1,0 +1,7 @@
+pub mod BuildingLemmas
+pub mod NodeLemmas
+pub mod NodesLemmas
+pub mod SpellingLemmas
+pub mod TextLemmas
+pub mod TokensLemmas
+pub mod TreeLemmas

@@ -1,0 +1,72 @@
+use Rattle.std.proofs.Common.{◌≡◌, ℕ, ◌++◌, refl, ap, Bool, true, false, max, ◌&&◌, not, arith, append_assoc}
+use Rattle.pur_tree.specs.Nodes.{Nodes, no_nodes, text_first, elem_first, nodes_append, level_below, is_sound, is_joined, starts_with_text}
+use Rattle.pur_tree.specs.Tokens.{tokens_of_nodes}
+
+pub nodes_append-none : (f : Nodes) → nodes_append f no_nodes ≡ f
+nodes_append-none no_nodes = refl
+nodes_append-none (text_first s f) = ap (text_first s) (nodes_append-none f)
+nodes_append-none (elem_first e k f) = ap (elem_first e k) (nodes_append-none f)
+
+pub nodes_append-assoc : (f g h : Nodes) → nodes_append (nodes_append f g) h ≡ nodes_append f (nodes_append g h)
+nodes_append-assoc no_nodes g h = refl
+nodes_append-assoc (text_first s f) g h = ap (text_first s) (nodes_append-assoc f g h)
+nodes_append-assoc (elem_first e k f) g h = ap (elem_first e k) (nodes_append-assoc f g h)
+
+pub tokens-append : (f g : Nodes) → tokens_of_nodes (nodes_append f g) ≡ tokens_of_nodes f ++ tokens_of_nodes g
+tokens-append no_nodes g = refl
+tokens-append (text_first s f) g = rw (tokens-append f g) refl
+tokens-append (elem_first e k f) g = rw (tokens-append f g) (simp append_assoc)
+
+pub level-append : (n : ℕ) (f g : Nodes) → level_below n (nodes_append f g) ≡ max (level_below n f) (level_below n g)
+level-append n no_nodes g = omega arith
+level-append n (text_first s f) g = level-append n f g
+level-append n (elem_first e k f) g = omega (arith, level-append n f g)
+
+-- a conjunction holds where both sides do
+pub both : {a b : Bool} → a ≡ true → b ≡ true → (a && b) ≡ true
+both p q = rw p q
+
+pub left_of : (a b : Bool) → (a && b) ≡ true → a ≡ true
+left_of true b h = refl
+left_of false b h = h
+
+pub right_of : (a b : Bool) → (a && b) ≡ true → b ≡ true
+right_of true b h = h
+right_of false b h = absurd (cc)
+
+pub sound-append : (f g : Nodes) → is_sound f ≡ true → is_sound g ≡ true → is_sound (nodes_append f g) ≡ true
+sound-append no_nodes g p q = q
+sound-append (text_first s f) g p q = both (left_of _ _ p) (sound-append f g (right_of _ _ p) q)
+sound-append (elem_first e k f) g p q =
+    both (left_of _ _ p) (both (left_of _ _ (right_of _ _ p)) (sound-append f g (right_of _ _ (right_of _ _ p)) q))
+
+pub sound_front : (f g : Nodes) → is_sound (nodes_append f g) ≡ true → is_sound f ≡ true
+sound_front no_nodes g p = refl
+sound_front (text_first s f) g p = both (left_of _ _ p) (sound_front f g (right_of _ _ p))
+sound_front (elem_first e k f) g p =
+    both (left_of _ _ p) (both (left_of _ _ (right_of _ _ p)) (sound_front f g (right_of _ _ (right_of _ _ p))))
+
+pub sound_back : (f g : Nodes) → is_sound (nodes_append f g) ≡ true → is_sound g ≡ true
+sound_back no_nodes g p = p
+sound_back (text_first s f) g p = sound_back f g (right_of _ _ p)
+sound_back (elem_first e k f) g p = sound_back f g (right_of _ _ (right_of _ _ p))
+
+-- joined nodes stay joined where what comes behind doesn't begin with a text
+pub joined-append : (f g : Nodes) → starts_with_text g ≡ false → is_joined f ≡ true → is_joined g ≡ true → is_joined (nodes_append f g) ≡ true
+joined-append no_nodes g s p q = q
+joined-append (text_first t no_nodes) g s p q = both (ap not s) q
+joined-append (text_first t (text_first u f)) g s p q = p
+joined-append (text_first t (elem_first e k f)) g s p q = joined-append (elem_first e k f) g s p q
+joined-append (elem_first e k f) g s p q = both (left_of _ _ p) (joined-append f g s (right_of _ _ p) q)
+
+pub joined_front : (f g : Nodes) → is_joined (nodes_append f g) ≡ true → is_joined f ≡ true
+joined_front no_nodes g p = refl
+joined_front (text_first t no_nodes) g p = refl
+joined_front (text_first t (text_first u f)) g p = p
+joined_front (text_first t (elem_first e k f)) g p = joined_front (elem_first e k f) g p
+joined_front (elem_first e k f) g p = both (left_of _ _ p) (joined_front f g (right_of _ _ p))
+
+pub joined_back : (f g : Nodes) → is_joined (nodes_append f g) ≡ true → is_joined g ≡ true
+joined_back no_nodes g p = p
+joined_back (text_first s f) g p = joined_back f g (right_of _ _ p)
+joined_back (elem_first e k f) g p = joined_back f g (right_of _ _ p)

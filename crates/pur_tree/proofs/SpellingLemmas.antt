@@ -1,0 +1,198 @@
+use Rattle.std.proofs.Common.{◌≡◌, ℕ, List, [], ◌∷◌, ◌++◌, refl, ap, sym, ◌∙◌, Bool, true, false, ◌&&◌, ◌||◌, not, append_assoc, arith, ◌==◌}
+use Rattle.std.specs.List.{list_any}
+use Rattle.std.proofs.lemmas.Bool.{ltb-true}
+use Rattle.std.proofs.lemmas.List.{append_cancel_left}
+use Rattle.pur_tree.specs.declared.element.Element.{Element}
+use Rattle.pur_tree.specs.declared.element.Element.TheVariants.{P, Br}
+use Rattle.pur_tree.specs.Elements.{name_of, is_empty}
+use Rattle.pur_tree.specs.Nodes.{Nodes, no_nodes, text_first, elem_first, is_sound, is_joined, has_no_nodes, starts_with_text}
+use Rattle.pur_tree.specs.Spelling.{is_markup, start_tag_of, end_tag_of, empty_tag_of, spelling_of, has_plain_texts, Spells, spells_nothing, spells_text, spells_empty, spells_element}
+use Rattle.pur_tree.proofs.NodesLemmas.{left_of, right_of}
+use Rattle.pur_tree.proofs.TokensLemmas.{none_of}
+
+-- what is spelled is spelled as the spelling
+pub spelling-spelled : {n : Nodes} {t : List ℕ} → Spells n t → spelling_of n ≡ t
+spelling-spelled spells_nothing = refl
+spelling-spelled (spells_text {c} {s} {rest} {t} plain alone more) = ap (λ u. (c ∷ s) ++ u) (spelling-spelled more)
+spelling-spelled (spells_empty {e} {rest} {t} empty more) = rw empty (ap (λ u. empty_tag_of e ++ u) (spelling-spelled more))
+spelling-spelled (spells_element {e} {kids} {rest} {u} {t} full inner more) =
+    rw full (ap (λ w. start_tag_of e ++ (w ++ (end_tag_of e ++ spelling_of rest))) (spelling-spelled inner)
+    ∙ ap (λ w. start_tag_of e ++ (u ++ (end_tag_of e ++ w))) (spelling-spelled more))
+
+false_of : (b : Bool) → not b ≡ true → b ≡ false
+false_of true h = absurd (cc)
+false_of false h = refl
+
+-- joined nodes with plain texts have a spelling
+pub Spells-spelling : (n : Nodes) → is_sound n ≡ true → is_joined n ≡ true → has_plain_texts n ≡ true → Spells n (spelling_of n)
+Spells-spelling no_nodes s j p = spells_nothing
+Spells-spelling (text_first [] n) s j p = absurd (omega (arith, ltb-true 0 0 (left_of _ (is_sound n) s)))
+Spells-spelling (text_first (c ∷ t) n) s j p =
+    spells_text (false_of _ (left_of _ _ p)) (false_of _ (left_of _ _ j)) (Spells-spelling n (right_of _ _ s) (right_of _ _ j) (right_of _ _ p))
+Spells-spelling (elem_first e k n) s j p =
+    go (is_empty e) refl (Spells-spelling n (right_of _ _ (right_of _ _ s)) (right_of _ _ j) (right_of _ _ p))
+    (Spells-spelling k (left_of _ _ (right_of _ _ s)) (left_of _ _ j) (left_of _ _ p))
+  where
+    go : (b : Bool) → is_empty e ≡ b → Spells n (spelling_of n) → Spells k (spelling_of k) → Spells (elem_first e k n) (spelling_of (elem_first e k n))
+    go true h more inner =
+        let w = left_of (not (is_empty e) || has_no_nodes k) (is_sound k && is_sound n) s in
+        let kn : k ≡ no_nodes = none_of k (rw h at w) in
+        rw (kn, h) (spells_empty h more)
+    go false h more inner = rw h (spells_element h inner more)
+
+neither_left : (a b : Bool) → (a || b) ≡ false → a ≡ false
+neither_left true b h = h
+neither_left false b h = refl
+
+neither_right : (a b : Bool) → (a || b) ≡ false → b ≡ false
+neither_right true b h = absurd (cc)
+neither_right false b h = h
+
+-- a list that is empty or begins with an element that stops a run
+abbrev pub is_stop : (ℕ → Bool) → List ℕ → Bool
+is_stop stops [] = true
+is_stop stops (c ∷ x) = stops c
+
+-- a run without what stops it is cut off exactly
+pub run_cut : (stops : ℕ → Bool) (a b x y : List ℕ) → list_any stops a ≡ false → list_any stops b ≡ false
+    → is_stop stops x ≡ true → is_stop stops y ≡ true → a ++ x ≡ b ++ y → (a ≡ b) × (x ≡ y)
+run_cut stops [] [] x y p q s t e = (refl, e)
+run_cut stops [] (d ∷ b) x y p q s t e = absurd (let w = rw e at s in let v = neither_left (stops d) (list_any stops b) q in cc)
+run_cut stops (c ∷ a) [] x y p q s t e = absurd (let w = rw (← e) at t in let v = neither_left (stops c) (list_any stops a) p in cc)
+run_cut stops (c ∷ a) (d ∷ b) x y p q s t e =
+    let same : c ≡ d = cc in
+    let more : a ++ x ≡ b ++ y = cc in
+    let r = run_cut stops a b x y (neither_right (stops c) (list_any stops a) p) (neither_right (stops d) (list_any stops b) q) s t more in
+    (let h : c ∷ a ≡ d ∷ b = rw (same, r.0) refl in h, r.1)
+
+-- the characters that end a name in a tag
+abbrev pub is_name_end : ℕ → Bool
+is_name_end c = (c == 32) || (c == 62)
+
+name_runs : (e : Element) → list_any is_name_end (name_of e) ≡ false
+name_runs P = refl
+name_runs Br = refl
+
+-- an element has a name of its own
+pub same_element : (e d : Element) → name_of e ≡ name_of d → e ≡ d
+same_element P P h = refl
+same_element P Br h = absurd (cc)
+same_element Br P h = absurd (cc)
+same_element Br Br h = refl
+
+-- what stands behind nodes: nothing, or the end tag of the element that they are the children of
+abbrev pub is_closer : List ℕ → Bool
+is_closer [] = true
+is_closer (a ∷ []) = false
+is_closer (a ∷ b ∷ x) = (a == 60) && (b == 47)
+
+tag_is_no_closer : (e : Element) (c : ℕ) (z : List ℕ) → is_closer (60 ∷ (name_of e ++ (c ∷ z))) ≡ false
+tag_is_no_closer P c z = refl
+tag_is_no_closer Br c z = refl
+
+text_is_no_closer : (c : ℕ) (z : List ℕ) → is_markup c ≡ false → is_closer (c ∷ z) ≡ false
+text_is_no_closer c [] h = refl
+text_is_no_closer c (d ∷ z) h = rw (neither_left (c == 60) (c == 62) (neither_right (c == 38) ((c == 60) || (c == 62)) h)) refl
+
+closer_stops : (x : List ℕ) → is_closer x ≡ true → is_stop is_markup x ≡ true
+closer_stops [] h = refl
+closer_stops (a ∷ []) h = absurd (cc)
+closer_stops (a ∷ b ∷ x) h = rw (left_of (a == 60) (b == 47) h) (or_true_left (a == 38))
+  where
+    or_true_left : (b : Bool) → (b || true) ≡ true
+    or_true_left true = refl
+    or_true_left false = refl
+
+-- a run of text ends where the text beside it ends
+text_stops : {n : Nodes} {t : List ℕ} → Spells n t → (x : List ℕ) → starts_with_text n ≡ false → is_closer x ≡ true → is_stop is_markup (t ++ x) ≡ true
+text_stops spells_nothing x h k = closer_stops x k
+text_stops (spells_text {c} {s} {rest} {t} plain alone more) x h k = absurd (cc)
+text_stops (spells_empty {e} {rest} {t} empty more) x h k = refl
+text_stops (spells_element {e} {kids} {rest} {u} {t} full inner more) x h k = refl
+
+true_is_no_false : {A : Type 0} (b : Bool) → b ≡ true → b ≡ false → A
+true_is_no_false b p q = absurd (cc)
+
+-- an empty tag and what stands behind it, from its name on
+empty_front : (e : Element) (t y : List ℕ) → (empty_tag_of e ++ t) ++ y ≡ 60 ∷ (name_of e ++ (32 ∷ 47 ∷ 62 ∷ (t ++ y)))
+empty_front e t y = ap (λ z. 60 ∷ z) (append_assoc (name_of e ++ (32 ∷ 47 ∷ 62 ∷ [])) t y ∙ append_assoc (name_of e) (32 ∷ 47 ∷ 62 ∷ []) (t ++ y))
+
+-- a start tag and what stands behind it, from its name on
+start_front : (e : Element) (t y : List ℕ) → (start_tag_of e ++ t) ++ y ≡ 60 ∷ (name_of e ++ (62 ∷ (t ++ y)))
+start_front e t y = ap (λ z. 60 ∷ z) (append_assoc (name_of e ++ (62 ∷ [])) t y ∙ append_assoc (name_of e) (62 ∷ []) (t ++ y))
+
+tail_same : (c d : ℕ) (a b : List ℕ) → c ∷ a ≡ d ∷ b → a ≡ b
+tail_same c d a b h = cc
+
+head_same : (c d : ℕ) (a b : List ℕ) → c ∷ a ≡ d ∷ b → c ≡ d
+head_same c d a b h = cc
+
+-- two tags with one text have one name, and the same behind it
+tag_cut : (e d : Element) (c b : ℕ) (z w : List ℕ) → is_name_end c ≡ true → is_name_end b ≡ true
+    → 60 ∷ (name_of e ++ (c ∷ z)) ≡ 60 ∷ (name_of d ++ (b ∷ w)) → (e ≡ d) × (c ≡ b) × (z ≡ w)
+tag_cut e d c b z w p q h =
+    let r = run_cut is_name_end (name_of e) (name_of d) (c ∷ z) (b ∷ w) (name_runs e) (name_runs d) p q (tail_same 60 60 _ _ h) in
+    (same_element e d r.0, head_same c b z w r.1, tail_same c b z w r.1)
+
+-- no text begins with markup
+text_begins_no_tag : {A : Type 0} (c : ℕ) (s z w : List ℕ) → list_any is_markup (c ∷ s) ≡ false → c ∷ z ≡ 60 ∷ w → A
+text_begins_no_tag c s z w plain h =
+    true_is_no_false (is_markup c) (rw (head_same c 60 z w h) refl) (neither_left (is_markup c) (list_any is_markup s) plain)
+
+-- an element in two readings: its children and what stands behind it
+element_parts : (e : Element) (u t x : List ℕ) → (u ++ (end_tag_of e ++ t)) ++ x ≡ u ++ (end_tag_of e ++ (t ++ x))
+element_parts e u t x = append_assoc u (end_tag_of e ++ t) x ∙ ap (λ z. u ++ z) (append_assoc (end_tag_of e) t x)
+
+-- two spellings that begin one text, up to an end tag or the text's end, are of the same nodes
+pub one_reading : {n : Nodes} {u : List ℕ} → Spells n u → {m : Nodes} {v : List ℕ} → Spells m v → (x y : List ℕ)
+    → is_closer x ≡ true → is_closer y ≡ true → u ++ x ≡ v ++ y → (n ≡ m) × (x ≡ y)
+one_reading spells_nothing spells_nothing x y p q h = (refl, h)
+one_reading spells_nothing (spells_text {c} {s} {rest} {t} plain alone more) x y p q h =
+    true_is_no_false _ p (ap is_closer h ∙ text_is_no_closer c ((s ++ t) ++ y) (neither_left (is_markup c) (list_any is_markup s) plain))
+one_reading spells_nothing (spells_empty {e} {rest} {t} empty more) x y p q h =
+    true_is_no_false _ p (ap is_closer (h ∙ empty_front e t y) ∙ tag_is_no_closer e 32 (47 ∷ 62 ∷ (t ++ y)))
+one_reading spells_nothing (spells_element {e} {kids} {rest} {u} {t} full inner more) x y p q h =
+    true_is_no_false _ p (ap is_closer (h ∙ start_front e (u ++ (end_tag_of e ++ t)) y) ∙ tag_is_no_closer e 62 ((u ++ (end_tag_of e ++ t)) ++ y))
+one_reading (spells_text {c} {s} {rest} {t} plain alone more) spells_nothing x y p q h =
+    true_is_no_false _ q (ap is_closer (sym h) ∙ text_is_no_closer c ((s ++ t) ++ x) (neither_left (is_markup c) (list_any is_markup s) plain))
+one_reading (spells_text {c} {s} {rest} {t} plain alone more) (spells_text {c = d} {s = r} {rest = back} {t = w} plain' alone' more') x y p q h =
+    let cut = run_cut is_markup (c ∷ s) (d ∷ r) (t ++ x) (w ++ y) plain plain' (text_stops more x alone p) (text_stops more' y alone' q)
+    (sym (append_assoc (c ∷ s) t x) ∙ h ∙ append_assoc (d ∷ r) w y) in
+    let behind = one_reading more more' x y p q cut.1 in
+    (ap (λ z. text_first z rest) cut.0 ∙ ap (text_first (d ∷ r)) behind.0, behind.1)
+one_reading (spells_text {c} {s} {rest} {t} plain alone more) (spells_empty {e} {rest = back} {t = w} empty more') x y p q h =
+    text_begins_no_tag c s ((s ++ t) ++ x) _ plain (h ∙ empty_front e w y)
+one_reading (spells_text {c} {s} {rest} {t} plain alone more) (spells_element {e} {kids} {rest = back} {u} {t = w} full inner more') x y p q h =
+    text_begins_no_tag c s ((s ++ t) ++ x) _ plain (h ∙ start_front e (u ++ (end_tag_of e ++ w)) y)
+one_reading (spells_empty {e} {rest} {t} empty more) spells_nothing x y p q h =
+    true_is_no_false _ q (ap is_closer (sym h ∙ empty_front e t x) ∙ tag_is_no_closer e 32 (47 ∷ 62 ∷ (t ++ x)))
+one_reading (spells_empty {e} {rest} {t} empty more) (spells_text {c} {s} {rest = back} {t = w} plain alone more') x y p q h =
+    text_begins_no_tag c s ((s ++ w) ++ y) _ plain (sym h ∙ empty_front e t x)
+one_reading (spells_empty {e} {rest} {t} empty more) (spells_empty {e = d} {rest = back} {t = w} empty' more') x y p q h =
+    let cut = tag_cut e d 32 32 (47 ∷ 62 ∷ (t ++ x)) (47 ∷ 62 ∷ (w ++ y)) refl refl (sym (empty_front e t x) ∙ h ∙ empty_front d w y) in
+    let behind = one_reading more more' x y p q (tail_same 62 62 _ _ (tail_same 47 47 _ _ cut.2)) in
+    (ap (λ z. elem_first z no_nodes rest) cut.0 ∙ ap (elem_first d no_nodes) behind.0, behind.1)
+one_reading (spells_empty {e} {rest} {t} empty more) (spells_element {e = d} {kids} {rest = back} {u} {t = w} full inner more') x y p q h =
+    let cut = tag_cut e d 32 62 (47 ∷ 62 ∷ (t ++ x)) ((u ++ (end_tag_of d ++ w)) ++ y) refl refl
+    (sym (empty_front e t x) ∙ h ∙ start_front d (u ++ (end_tag_of d ++ w)) y) in
+    absurd (omega (arith, cut.1))
+one_reading (spells_element {e} {kids} {rest} {u} {t} full inner more) spells_nothing x y p q h =
+    true_is_no_false _ q (ap is_closer (sym h ∙ start_front e (u ++ (end_tag_of e ++ t)) x) ∙ tag_is_no_closer e 62 ((u ++ (end_tag_of e ++ t)) ++ x))
+one_reading (spells_element {e} {kids} {rest} {u} {t} full inner more) (spells_text {c} {s} {rest = back} {t = w} plain alone more') x y p q h =
+    text_begins_no_tag c s ((s ++ w) ++ y) _ plain (sym h ∙ start_front e (u ++ (end_tag_of e ++ t)) x)
+one_reading (spells_element {e} {kids} {rest} {u} {t} full inner more) (spells_empty {e = d} {rest = back} {t = w} empty more') x y p q h =
+    let cut = tag_cut e d 62 32 ((u ++ (end_tag_of e ++ t)) ++ x) (47 ∷ 62 ∷ (w ++ y)) refl refl
+    (sym (start_front e (u ++ (end_tag_of e ++ t)) x) ∙ h ∙ empty_front d w y) in
+    absurd (omega (arith, cut.1))
+one_reading (spells_element {e} {kids} {rest} {u} {t} full inner more) (spells_element {e = d} {kids = kids'} {rest = back} {u = v} {t = w} full' inner' more') x y p q h =
+    let cut = tag_cut e d 62 62 ((u ++ (end_tag_of e ++ t)) ++ x) ((v ++ (end_tag_of d ++ w)) ++ y) refl refl
+    (sym (start_front e (u ++ (end_tag_of e ++ t)) x) ∙ h ∙ start_front d (v ++ (end_tag_of d ++ w)) y) in
+    let within = one_reading inner inner' (end_tag_of e ++ (t ++ x)) (end_tag_of d ++ (w ++ y)) refl refl
+    (sym (element_parts e u t x) ∙ cut.2 ∙ element_parts d v w y) in
+    let behind = one_reading more more' x y p q
+    (append_cancel_left (end_tag_of d) (t ++ x) (w ++ y) (ap (λ z. end_tag_of z ++ (t ++ x)) (sym cut.0) ∙ within.1)) in
+    (ap (λ z. elem_first z kids rest) cut.0 ∙ ap (λ z. elem_first d z rest) within.0 ∙ ap (elem_first d kids') behind.0, behind.1)
+
+-- a text spells at most one list of nodes
+pub Spells-unique : (n m : Nodes) (t : List ℕ) → Spells n t → Spells m t → n ≡ m
+Spells-unique n m t a b = (one_reading a b [] [] refl refl refl).0

@@ -1,0 +1,80 @@
+use Rattle.std.proofs.Common.{◌≡◌, ℕ, List, [], ◌∷◌, ◌++◌, refl, ap, sym, ◌∙◌, Bool, true, false, ◌&&◌, ◌||◌, not, append_assoc, cond}
+use Rattle.pur_tree.specs.declared.element.Element.{Element}
+use Rattle.pur_tree.specs.Elements.{is_empty}
+use Rattle.pur_tree.specs.Nodes.{Nodes, no_nodes, text_first, elem_first, is_sound, is_joined, has_no_nodes}
+use Rattle.pur_tree.specs.Building.{ends_with_text}
+use Rattle.pur_tree.specs.Tokens.{Token, text_token, start_token, end_token, empty_token, tokens_of_nodes, opening_of, join_token, joined}
+use Rattle.pur_tree.proofs.NodesLemmas.{left_of, right_of}
+
+-- the list begins with a text
+abbrev pub begins_with_text : List Token → Bool
+begins_with_text [] = false
+begins_with_text (text_token s ∷ ts) = true
+begins_with_text (start_token e ∷ ts) = false
+begins_with_text (end_token e ∷ ts) = false
+begins_with_text (empty_token e ∷ ts) = false
+
+-- a text stays by itself in front of what doesn't begin with a text
+text_before : (s : List ℕ) (x : List Token) → begins_with_text x ≡ false → join_token (text_token s) (joined x) ≡ text_token s ∷ joined x
+text_before s [] h = refl
+text_before s (text_token t ∷ x) h = absurd (cc)
+text_before s (start_token e ∷ x) h = refl
+text_before s (end_token e ∷ x) h = refl
+text_before s (empty_token e ∷ x) h = refl
+
+-- a text stays by itself in front of an opening token
+text_opening : (s : List ℕ) (e : Element) (x : List Token) → join_token (text_token s) (opening_of e ∷ x) ≡ text_token s ∷ opening_of e ∷ x
+text_opening s e x = go (is_empty e)
+  where
+    go : (b : Bool) → join_token (text_token s) (cond b (empty_token e) (start_token e) ∷ x) ≡ text_token s ∷ cond b (empty_token e) (start_token e) ∷ x
+    go true = refl
+    go false = refl
+
+-- nothing joins an opening token
+pub joined-opening : (e : Element) (x : List Token) → joined (opening_of e ∷ x) ≡ opening_of e ∷ joined x
+joined-opening e x = go (is_empty e)
+  where
+    go : (b : Bool) → joined (cond b (empty_token e) (start_token e) ∷ x) ≡ cond b (empty_token e) (start_token e) ∷ joined x
+    go true = refl
+    go false = refl
+
+pub opening_is_no_text : (e : Element) (x : List Token) → begins_with_text (opening_of e ∷ x) ≡ false
+opening_is_no_text e x = go (is_empty e)
+  where
+    go : (b : Bool) → begins_with_text (cond b (empty_token e) (start_token e) ∷ x) ≡ false
+    go true = refl
+    go false = refl
+
+pub none_of : (k : Nodes) → has_no_nodes k ≡ true → k ≡ no_nodes
+none_of no_nodes h = refl
+none_of (text_first s f) h = absurd (cc)
+none_of (elem_first e k f) h = absurd (cc)
+
+-- no conjunction with false holds
+pub never : (b : Bool) → (b && false) ≡ false
+never true = refl
+never false = refl
+
+-- the tokens of joined nodes join nothing among them, and nothing behind them unless two texts meet there
+pub joined-tokens : (f : Nodes) (x : List Token) → is_joined f ≡ true → is_sound f ≡ true → (ends_with_text f && begins_with_text x) ≡ false
+    → joined (tokens_of_nodes f ++ x) ≡ tokens_of_nodes f ++ joined x
+joined-tokens no_nodes x j s m = refl
+joined-tokens (text_first t no_nodes) x j s m = text_before t x m
+joined-tokens (text_first t (text_first u f)) x j s m = absurd (cc)
+joined-tokens (text_first t (elem_first e k f)) x j s m =
+    ap (join_token (text_token t)) (joined-tokens (elem_first e k f) x j (right_of _ _ s) m) ∙ text_opening t e _
+joined-tokens (elem_first e k f) x j s m =
+    go (is_empty e) refl (joined-tokens f x (right_of _ _ j) (right_of _ _ (right_of _ _ s)) m)
+    (λ y h. joined-tokens k y (left_of _ _ j) (left_of _ _ (right_of _ _ s)) h)
+  where
+    go : (b : Bool) → is_empty e ≡ b
+        → joined (tokens_of_nodes f ++ x) ≡ tokens_of_nodes f ++ joined x
+        → ((y : List Token) → (ends_with_text k && begins_with_text y) ≡ false → joined (tokens_of_nodes k ++ y) ≡ tokens_of_nodes k ++ joined y)
+        → joined (tokens_of_nodes (elem_first e k f) ++ x) ≡ tokens_of_nodes (elem_first e k f) ++ joined x
+    go true h r q =
+        let w = left_of (not (is_empty e) || has_no_nodes k) (is_sound k && is_sound f) s in
+        let kn : k ≡ no_nodes = none_of k (rw h at w) in
+        rw (kn, h) (ap (λ ts. empty_token e ∷ ts) r)
+    go false h r q =
+        rw h (ap (λ ts. start_token e ∷ ts)
+        (ap joined (append_assoc (tokens_of_nodes k) (end_token e ∷ tokens_of_nodes f) x) ∙ q (end_token e ∷ (tokens_of_nodes f ++ x)) (never (ends_with_text k)) ∙ ap (λ ts. tokens_of_nodes k ++ (end_token e ∷ ts)) r ∙ sym (append_assoc (tokens_of_nodes k) (end_token e ∷ tokens_of_nodes f) (joined x))))

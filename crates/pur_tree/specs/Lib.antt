@@ -1,0 +1,8 @@
+pub mod Building
+pub mod Elements
+pub mod Forests
+pub mod Image
+pub mod Laws
+pub mod Nodes
+pub mod Spelling
+pub mod Tokens

@@ -1,0 +1,21 @@
+//! Trees of XHTML as owned values.
+//!
+//! A `Node` is a text or an element, and a `Forest` is a list of nodes in which no element lies deeper
+//! than the level limit, no EMPTY element has children and no text is empty. A `Builder` makes a forest
+//! from start tags, texts and end tags in the order in which they stand in a document. To contracts
+//! nodes are one plain list, `Nodes`: the first node and the nodes after it; `specs/` says how such a
+//! list is spelled, what its level is, which flat list of tokens writes it out, and which list of nodes
+//! is the tree of such tokens.
+#![tactic(auto)]
+
+mod builder;
+mod element;
+mod forest;
+mod laws;
+mod node;
+
+pub use builder::Builder;
+pub use element::Element;
+pub use forest::Forest;
+pub use laws::{has_one_tree, has_spelling, spelled_as_itself, spells_at_most_one};
+pub use node::{Elem, Node};

@@ -1,0 +1,21 @@
+use crate::element::Element;
+
+/// A node of a tree: a text or an element.
+#[cycle(node)]
+#[derive(Drop)]
+pub enum Node {
+    /// A run of characters.
+    Text(String),
+    /// An element with its children.
+    Elem(Elem),
+}
+
+/// An element: its name and its children in document order.
+#[cycle(node)]
+#[derive(Drop)]
+pub struct Elem {
+    /// The element's name.
+    pub name: Element,
+    /// The children, in document order.
+    pub children: Vec<Node>,
+}
