@@ -1,4 +1,5 @@
-use Rattle.std.specs.Prelude.{◌≡◌, ℕ, ◌+◌, ◌-◌, ◌^◌, ◌≤◌, min, Result, OnOk, OnErr}
+use Rattle.std.specs.Prelude.{◌≡◌, ℕ, ◌+◌, ◌-◌, ◌^◌, ◌≤◌, ◌==◌, min, Bool, List, Result, OnOk, OnErr}
+use Rattle.std.specs.List.{list_any}
 
 -- one more than a count of 64 bits, which stays at 2^64 - 1 once it stands there
 abbrev pub one_more : ℕ → ℕ
@@ -15,3 +16,7 @@ pub record HasCause {T E : Type 0} (before now : ℕ) (result : Result T E) : Ty
   pub small : now ≤ 2 ^ 64 - 1
   pub failed : OnErr result (Rose before now)
   pub kept : OnOk result (now ≡ before)
+
+-- whether a call's number is in the list of the calls that are to fail
+abbrev pub is_failing : List ℕ → ℕ → Bool
+is_failing failing number = list_any (λ n. n == number) failing

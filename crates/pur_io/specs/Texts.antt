@@ -1,4 +1,6 @@
-use Rattle.std.specs.Prelude.{◌≡◌, ℕ, ◌+◌, ◌≤◌, Bool, true, false, ◌||◌, List, [], ◌∷◌, take, drop, length, Option, Some, None, bytes_eq, if◌then◌else◌}
+use Rattle.std.specs.Prelude.{◌≡◌, ℕ, ◌+◌, ◌≤◌, Bool, true, false, ◌||◌, List, [], ◌∷◌, map, take, drop, length, Option, Some, None, option_map, String, string_bytes, bytes_eq, if◌then◌else◌}
+use Rattle.std.specs.Global.{Vec, Global}
+use Rattle.std.specs.List.{IsDistinct}
 
 -- the name of a text: the UTF-8 bytes of a name, or none for standard input
 abbrev pub Name : Type 0
@@ -38,3 +40,16 @@ pub record ReadsAt (text : List ℕ) (place next n : ℕ) (into : List ℕ) : Ty
   pub bytes : take n into ≡ take n (drop place text)
   pub within : n ≤ length (drop place text)
   pub ended : n ≡ 0 → length text ≤ place
+
+-- a name as a shelf's caller writes it, as the UTF-8 bytes of it
+abbrev pub plain_name : Option (String Global) → Name
+plain_name name = option_map string_bytes name
+
+-- the texts that a shelf in memory is made from, as names and bytes
+abbrev pub plain_texts : List (Option (String Global) × Vec ℕ) → List (Name × List ℕ)
+plain_texts [] = []
+plain_texts (text ∷ texts) = (plain_name text.0, text.1.items) ∷ plain_texts texts
+
+-- no two texts have the same name
+abbrev pub HasDistinctNames : List (Name × List ℕ) → Type 0
+HasDistinctNames texts = IsDistinct same_name (map (λ text. text.0) texts)

@@ -5,6 +5,20 @@
 //! never fails ([`SureShelf`], [`SureSink`]), and by the real streams ([`FileShelf`], [`StdSink`]).
 #![tactic(auto)]
 
+mod fault_plan;
+mod file_shelf;
+mod mem_shelf;
+mod mem_sink;
+mod std_sink;
+mod sure_shelf;
+mod sure_sink;
+mod text_list;
 mod traits;
 
+pub use file_shelf::FileShelf;
+pub use mem_shelf::MemShelf;
+pub use mem_sink::MemSink;
+pub use std_sink::StdSink;
+pub use sure_shelf::SureShelf;
+pub use sure_sink::SureSink;
 pub use traits::{Failed, Shelf, Sink};
