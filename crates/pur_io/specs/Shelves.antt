@@ -38,3 +38,10 @@ pub record SureShelfState : Type 0 where
   pub texts : List (Name × List ℕ)
   pub chosen : Option Name
   pub place : ℕ
+
+-- a shelf over the real world as its caller sees it: its count of faults, the name chosen last, and
+-- the count of faults as it was chosen
+pub record FileShelfState : Type 0 where
+  pub faults : ℕ
+  pub chosen : Option Name
+  pub mark : ℕ

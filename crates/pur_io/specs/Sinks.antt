@@ -19,3 +19,11 @@ write_fails sink = is_failing sink.failing (one_more sink.number) || nat_le sink
 -- how many bytes of a piece of this length the next call takes, where it doesn't fail
 abbrev pub write_count : MemSinkState → ℕ → ℕ
 write_count sink len = min (sink.room - length sink.taken) (min sink.most len)
+
+-- a standard stream as its caller sees it: its count of faults
+pub record StdSinkState : Type 0 where
+  pub faults : ℕ
+
+-- a sink that never fails as its caller sees it: how many bytes it was given, at most 2^64 - 1
+pub record SureSinkState : Type 0 where
+  pub given : ℕ

@@ -1,11 +1,13 @@
 //! Standard input, and later files, as a shelf.
 
-ghost use Rattle.std.specs.Prelude.{◌≡◌, ℕ, ◌^◌, ◌<◌, None, option_map, Some};
-ghost use Rattle.pur_io.specs.Faults.{one_more};
+ghost use Rattle.std.specs.Prelude.{◌≡◌, ◌≢◌, ℕ, ◌^◌, ◌<◌, ◌≤◌, length, Some, None, option_map, string_bytes, is_err, is_some, IfOk, OnErr, IsErr};
+ghost use Rattle.pur_io.specs.Faults.{one_more, HasCause};
 ghost use Rattle.pur_io.specs.Texts.{plain_name};
+ghost use Rattle.pur_io.specs.Shelves.{FileShelfState};
 
 use crate::traits::{Failed, Shelf};
 use std::io::Read;
+use std::marker::Model;
 use std::rt::Files;
 
 /// The real world as a shelf. It tells no content. For now it serves standard input alone: to choose a
@@ -16,25 +18,36 @@ use std::rt::Files;
 pub struct FileShelf<'r, R: Files, I: Read> {
     rt: &'r R,
     input: I,
-    chosen: Option<Option<String>>,
-    faults: u64,
-    mark: u64,
-    ghost counted: { faults < 2 ^ 64 },
+    choice: Option<Option<String>>,
+    fault_count: u64,
+    marked: u64,
+}
+
+impl<'r, R: Files, I: Read> Model for FileShelf<'r, R, I> {
+    ghost Value = { FileShelfState };
+
+    ghost view = { λ s. record {
+      faults = s.fault_count;
+      chosen = option_map plain_name s.choice;
+      mark = s.marked;
+    } };
+
+    ghost invariant = { λ s. s.fault_count < 2 ^ 64 };
 }
 
 impl<'r, R: Files, I: Read> FileShelf<'r, R, I> {
     /// A shelf over the files of the runtime and this input, where nothing is chosen yet.
     pub fn new(rt: &'r R, input: I) -> FileShelf<'r, R, I>
-        ensures chosen { ⟦<FileShelf<'r, R, I> as Shelf>⟧.chosen result ≡ None }
-        ensures faults { ⟦<FileShelf<'r, R, I> as Shelf>⟧.faults result ≡ 0 }
-        ensures mark { ⟦<FileShelf<'r, R, I> as Shelf>⟧.mark result ≡ 0 }
+        ensures faults { result.faults ≡ 0 }
+        ensures chosen { result.chosen ≡ None }
+        ensures mark { result.mark ≡ 0 }
     {
         FileShelf {
             rt,
             input,
-            chosen: None,
-            faults: 0,
-            mark: 0,
+            choice: None,
+            fault_count: 0,
+            marked: 0,
         }
     }
 
@@ -44,7 +57,7 @@ impl<'r, R: Files, I: Read> FileShelf<'r, R, I> {
         ensures chosen { self.new.chosen ≡ self.old.chosen }
         ensures mark { self.new.mark ≡ self.old.mark }
     {
-        self.faults = self.faults.saturating_add(1);
+        self.fault_count = self.fault_count.saturating_add(1);
         Failed
     }
 }
@@ -56,21 +69,35 @@ impl<'r, R: Files, I: Read> Shelf for FileShelf<'r, R, I> {
 
     ghost faults = { λ s. s.faults };
 
-    ghost chosen = { λ s. option_map plain_name s.chosen };
+    ghost chosen = { λ s. s.chosen };
 
     ghost mark = { λ s. s.mark };
 
-    /// Fails for a named text.
-    fn choose(&mut self, name: Option<String>) -> Result<(), Failed> {
-        self.mark = self.faults;
+    /// Fails exactly where a name is given.
+    fn choose(&mut self, name: Option<String>) -> Result<(), Failed>
+        ensures chosen { self.new.chosen ≡ Some (option_map string_bytes name) }
+        ensures mark { self.new.mark ≡ self.old.faults }
+        ensures cause { HasCause self.old.faults self.new.faults result }
+        ensures counted { OnErr result (self.new.faults ≡ one_more self.old.faults) }
+        ensures fails { is_err result ≡ is_some name }
+    {
+        self.marked = self.fault_count;
         let is_input = name.is_none();
-        self.chosen = Some(name);
+        self.choice = Some(name);
         if is_input { Ok(()) } else { Err(self.fault()) }
     }
 
-    /// Fails where the system can't read, or standard input isn't what was chosen last.
-    fn read(&mut self, into: &mut [u8]) -> Result<usize, Failed> {
-        if !matches!(self.chosen, Some(None)) {
+    /// Fails where the system can't read, and where standard input isn't what was chosen last.
+    fn read(&mut self, into: &mut [u8]) -> Result<usize, Failed>
+        requires { 0 < length into.old }
+        ensures bound { IfOk result (λ n. n ≤ length into.new) }
+        ensures chosen { self.new.chosen ≡ self.old.chosen }
+        ensures mark { self.new.mark ≡ self.old.mark }
+        ensures cause { HasCause self.old.faults self.new.faults result }
+        ensures counted { OnErr result (self.new.faults ≡ one_more self.old.faults) }
+        ensures unchosen { self.old.chosen ≢ Some None → IsErr result }
+    {
+        if !matches!(self.choice, Some(None)) {
             return Err(self.fault());
         }
         match self.input.read(into) {
