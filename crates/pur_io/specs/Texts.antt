@@ -1,6 +1,5 @@
-use Rattle.std.specs.Prelude.{◌≡◌, ℕ, ◌+◌, ◌≤◌, Bool, true, false, ◌||◌, List, [], ◌∷◌, map, take, drop, length, Option, Some, None, option_map, String, string_bytes, bytes_eq, if◌then◌else◌}
+use Rattle.std.specs.Prelude.{◌≡◌, ℕ, ◌+◌, ◌≤◌, Bool, true, false, not, ◌&&◌, ◌||◌, List, [], ◌∷◌, take, drop, length, Option, Some, None, option_map, String, string_bytes, bytes_eq, if◌then◌else◌, IsTrue}
 use Rattle.std.specs.Global.{Vec, Global}
-use Rattle.std.specs.List.{IsDistinct}
 
 -- the name of a text: the UTF-8 bytes of a name, or none for standard input
 abbrev pub Name : Type 0
@@ -50,6 +49,11 @@ abbrev pub plain_texts : List (Option (String Global) × Vec ℕ) → List (Name
 plain_texts [] = []
 plain_texts (text ∷ texts) = (plain_name text.0, text.1.items) ∷ plain_texts texts
 
+-- whether no text is listed under the name of a later one
+abbrev pub are_distinct : List (Name × List ℕ) → Bool
+are_distinct [] = true
+are_distinct (text ∷ texts) = not (is_named texts text.0) && are_distinct texts
+
 -- no two texts have the same name
 abbrev pub HasDistinctNames : List (Name × List ℕ) → Type 0
-HasDistinctNames texts = IsDistinct same_name (map (λ text. text.0) texts)
+HasDistinctNames texts = IsTrue (are_distinct texts)
