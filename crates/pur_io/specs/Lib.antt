@@ -1,0 +1,5 @@
+pub mod Faults
+pub mod Taken
+pub mod Texts
+pub mod Shelves
+pub mod Sinks
