@@ -130,7 +130,7 @@ break-well None h = h
 break-well (Some ms) h = h
 
 -- what begins a text, by the four tests that tell it
-abbrev front_by : Bool → Bool → Bool → Bool → Front
+abbrev pub front_by : Bool → Bool → Bool → Bool → Front
 front_by opens closes breaks plain =
     if opens then tag_front open_mark 3
     else (if closes then tag_front close_mark 4

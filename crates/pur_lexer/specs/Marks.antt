@@ -84,3 +84,8 @@ is_plain_marks (text_mark s ∷ ms) = is_plain_text s && not (begins_with_text m
 is_plain_marks (open_mark ∷ ms) = is_plain_marks ms
 is_plain_marks (close_mark ∷ ms) = is_plain_marks ms
 is_plain_marks (break_mark ∷ ms) = is_plain_marks ms
+
+-- whether the first character may stand as text
+unfoldable pub begins_plain : List ℕ → Bool
+begins_plain [] = false
+begins_plain (c ∷ t) = is_plain c
