@@ -6,11 +6,19 @@ use Rattle.std.specs.List.{starts_with, list_all, position, prefix_len}
 use Rattle.std.specs.Option.{unwrap_or}
 use Rattle.std.proofs.lemmas.List.Sums.{prefix_len-le-length}
 use Rattle.pur_lexer.proofs.MarkLemmas.{parts_of, marks_of-nil}
-use Rattle.pur_lexer.specs.Cuts.{with_marks_before}
 use Rattle.pur_lexer.specs.declared.marks.Mark.{Mark}
 use Rattle.std.proofs.lemmas.List.{map-append}
-use Rattle.pur_lexer.specs.Marks.{PlainMark, plain_mark, text_mark, open_mark, close_mark, break_mark, is_plain, Front, tag_front, text_front, unbuilt_front, front_of, with_char, with_text, marks_from, marks_after, marks_of, begins_with_text, begins_plain}
+use Rattle.pur_lexer.specs.Marks.{PlainMark, plain_mark, text_mark, open_mark, close_mark, break_mark, is_plain, Front, tag_front, text_front, unbuilt_front, front_of, with_char, with_text, marks_from, marks_after, marks_of, begins_with_text}
 use Rattle.pur_lexer.proofs.MarkLemmas.{front_by, marks_of-text, with_text-alone}
+
+-- whether the first character may stand as text
+unfoldable pub begins_plain : List ℕ → Bool
+begins_plain [] = false
+begins_plain (c ∷ t) = is_plain c
+
+-- the marks that were read, and the marks of what follows
+unfoldable pub with_marks_before : List PlainMark → Option (List PlainMark) → Option (List PlainMark)
+with_marks_before done more = option_map (λ ms. done ++ ms) more
 
 false_by : (b : Bool) → (b ≡ true → ⊥) → b ≡ false
 false_by true h = absurd (h refl)

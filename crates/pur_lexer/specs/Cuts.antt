@@ -1,5 +1,5 @@
 -- What a cut says of the text that it was cut from.
-use Rattle.std.specs.Prelude.{ℕ, ◌+◌, ◌≡◌, ◌<◌, List, [], ◌∷◌, length, ◌++◌, Option, None, Some, option_map, IsAscii}
+use Rattle.std.specs.Prelude.{ℕ, ◌+◌, ◌≡◌, ◌<◌, List, [], ◌∷◌, length, Option, None, Some, option_map, IsAscii}
 use Rattle.pur_lexer.specs.Marks.{PlainMark, text_mark, open_mark, close_mark, break_mark, marks_of}
 use Rattle.pur_lexer.specs.declared.cuts.Cut.{Cut}
 use Rattle.pur_lexer.specs.declared.cuts.Cut.TheVariants.{Open, Close, Break, Text, Unbuilt}
@@ -19,7 +19,3 @@ IsCutOf (Close rest) size = length rest.now < size
 IsCutOf (Break rest) size = length rest.now < size
 IsCutOf (Text run rest) size = (length rest.now < size) × IsAscii run.now
 IsCutOf Unbuilt size = Unit {0}
-
--- the marks that were read, and the marks of what follows
-unfoldable pub with_marks_before : List PlainMark → Option (List PlainMark) → Option (List PlainMark)
-with_marks_before done more = option_map (λ ms. done ++ ms) more

@@ -18,7 +18,7 @@ plain_mark Open = open_mark
 plain_mark Close = close_mark
 plain_mark Break = break_mark
 
--- what may stand as text: TAB, LF and U+0020 to U+007E but `&`, `<` and `>` (XML 1.0: `Char` and `CharData`)
+-- what may stand as text: TAB, LF and U+0020 to U+007E but `&`, `<` and `>` (a part of what XML 1.0 names `CharData`)
 unfoldable pub is_plain : ℕ → Bool
 is_plain c = nat_eq c 9 || nat_eq c 10 || (nat_le 32 c && nat_lt c 127 && not (nat_eq c 38) && not (nat_eq c 60) && not (nat_eq c 62))
 
@@ -84,8 +84,3 @@ is_plain_marks (text_mark s ∷ ms) = is_plain_text s && not (begins_with_text m
 is_plain_marks (open_mark ∷ ms) = is_plain_marks ms
 is_plain_marks (close_mark ∷ ms) = is_plain_marks ms
 is_plain_marks (break_mark ∷ ms) = is_plain_marks ms
-
--- whether the first character may stand as text
-unfoldable pub begins_plain : List ℕ → Bool
-begins_plain [] = false
-begins_plain (c ∷ t) = is_plain c

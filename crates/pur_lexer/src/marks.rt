@@ -61,3 +61,6 @@ fn text_of(alloc: Global, run: &[u8]) -> Result<String, AllocError>
         Err(_) => unreachable!(),
     }
 }
+
+#[cfg(test)]
+mod tests;

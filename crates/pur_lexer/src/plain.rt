@@ -4,6 +4,7 @@ ghost use Rattle.std.specs.Option.{unwrap_or};
 ghost use Rattle.pur_lexer.specs.Marks.{is_plain};
 
 const NO: bool = false;
+
 const OK: bool = true;
 
 // Whether a byte may stand as text, for each of the 256, sixteen a row.

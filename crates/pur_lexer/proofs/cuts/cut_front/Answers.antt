@@ -2,9 +2,9 @@
 use Rattle.std.proofs.Common.{rules, ◌≡◌, ◌<◌, length, ap, ◌∙◌, Some, None, codes, false}
 use Rattle.std.proofs.lemmas.Bool.Decides.{Decides-eqb}
 use Rattle.std.proofs.lemmas.Slice.Eq.{strip_prefix_is}
-use Rattle.pur_lexer.specs.Marks.{marks_of, begins_plain}
+use Rattle.pur_lexer.specs.Marks.{marks_of}
 use Rattle.pur_lexer.proofs.MarkLemmas.{marks_of-open, marks_of-close, marks_of-break}
-use Rattle.pur_lexer.proofs.CutLemmas.{marks_of-unbuilt, none_plain, run_read, run_shorter, run_ascii}
+use Rattle.pur_lexer.proofs.CutLemmas.{begins_plain, marks_of-unbuilt, none_plain, run_read, run_shorter, run_ascii}
 use Rattle.pur_lexer.proofs.cuts.cut_front.Goals as goal
 
 pub returns-in-Some-clause-marks : goal.returns-in-Some-clause-marks
@@ -26,10 +26,10 @@ pub returns-then-size-eq0-clause-marks : goal.returns-then-size-eq0-clause-marks
 returns-then-size-eq0-clause-marks c =
     let apart : begins_plain c.args.text.now ≡ false = none_plain _ _ c.plain_len-size.ensures c.if-size-eq0.true in
     marks_of-unbuilt c.args.text.now c.requires
-      (strip_prefix_is Decides-eqb c.args.text.now (codes "<p>") None c.in_default.ensures.cases)
-      (strip_prefix_is Decides-eqb c.args.text.now (codes "</p>") None c.in_default-strip_prefix.ensures.cases)
-      (strip_prefix_is Decides-eqb c.args.text.now (codes "<br />") None c.in_default-strip_prefix-2.ensures.cases)
-      apart
+    (strip_prefix_is Decides-eqb c.args.text.now (codes "<p>") None c.in_default.ensures.cases)
+    (strip_prefix_is Decides-eqb c.args.text.now (codes "</p>") None c.in_default-strip_prefix.ensures.cases)
+    (strip_prefix_is Decides-eqb c.args.text.now (codes "<br />") None c.in_default-strip_prefix-2.ensures.cases)
+    apart
 
 pub returns-clause-marks : goal.returns-clause-marks
 returns-clause-marks c =
