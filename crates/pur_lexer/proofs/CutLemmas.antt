@@ -1,5 +1,5 @@
 -- What a text that begins with a tag, with a run of text or with neither is read as.
-use Rattle.std.proofs.Common.{◌≡◌, ◌≢◌, ℕ, zero, suc, ◌-◌, ◌+◌, ◌<◌, ◌≤◌, Bool, true, false, not, ◌&&◌, ◌||◌, cond, List, [], ◌∷◌, ◌++◌, length, take, drop, Option, None, Some, option_map, if◌then◌else◌, nat_eq, nat_lt, nat_le, codes, IsTrue, IfSome, IsAscii, slice_index, refl, ap, sym, ◌∙◌, true≢false, subst, append_assoc, append-nil, map, one-add, length-drop, length-take, take-append-drop, arith}
+use Rattle.std.proofs.Common.{◌≡◌, ◌≢◌, ℕ, zero, suc, ◌+◌, ◌<◌, ◌≤◌, Bool, true, false, not, cond, List, [], ◌∷◌, ◌++◌, length, take, drop, Option, None, Some, option_map, nat_eq, nat_lt, codes, IsTrue, IfSome, IsAscii, slice_index, refl, ap, sym, ◌∙◌, true≢false, subst, append_assoc, append-nil, map, one-add, length-drop, length-take, take-append-drop, arith}
 use Rattle.std.proofs.lemmas.Bool.Decides.{nat_tests, Decides-eqb}
 use Rattle.std.proofs.lemmas.Slice.Eq.{starts_is}
 use Rattle.std.specs.List.{starts_with, list_all, position, prefix_len}
@@ -8,7 +8,7 @@ use Rattle.std.proofs.lemmas.List.Sums.{prefix_len-le-length}
 use Rattle.pur_lexer.proofs.MarkLemmas.{parts_of, marks_of-nil}
 use Rattle.pur_lexer.specs.declared.marks.Mark.{Mark}
 use Rattle.std.proofs.lemmas.List.{map-append}
-use Rattle.pur_lexer.specs.Marks.{PlainMark, plain_mark, text_mark, open_mark, close_mark, break_mark, is_plain, Front, tag_front, text_front, unbuilt_front, front_of, with_char, with_text, marks_from, marks_after, marks_of, begins_with_text}
+use Rattle.pur_lexer.specs.Marks.{PlainMark, plain_mark, text_mark, open_mark, close_mark, break_mark, is_plain, front_of, with_text, marks_from, marks_after, marks_of, begins_with_text}
 use Rattle.pur_lexer.proofs.MarkLemmas.{front_by, marks_of-text, with_text-alone}
 
 -- whether the first character may stand as text

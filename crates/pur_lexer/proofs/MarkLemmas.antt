@@ -1,8 +1,8 @@
 -- What the marks of a text are, by what stands in front.
-use Rattle.std.proofs.Common.{◌≡◌, ℕ, zero, suc, ◌-◌, ◌+◌, ◌<◌, ◌≤◌, Bool, true, false, not, ◌&&◌, ◌||◌, cond, List, [], ◌∷◌, ◌++◌, length, take, drop, Option, None, Some, option_map, if◌then◌else◌, nat_eq, nat_lt, nat_le, codes, IsTrue, IfSome, refl, ap, sym, ◌∙◌, true≢false, subst, arith}
+use Rattle.std.proofs.Common.{◌≡◌, ℕ, zero, suc, Bool, true, false, not, ◌&&◌, List, [], ◌∷◌, ◌++◌, Option, None, Some, option_map, if◌then◌else◌, nat_eq, codes, IsTrue, IfSome, refl, ap, sym, ◌∙◌, true≢false, subst, arith}
 use Rattle.std.proofs.lemmas.Bool.Decides.{nat_tests}
 use Rattle.std.specs.List.{starts_with, list_all}
-use Rattle.pur_lexer.specs.Marks.{PlainMark, text_mark, open_mark, close_mark, break_mark, is_plain, Front, tag_front, text_front, unbuilt_front, front_of_char, front_of, with_char, with_text, marks_from, marks_after, marks_of, begins_with_text, is_plain_text, is_plain_marks}
+use Rattle.pur_lexer.specs.Marks.{PlainMark, text_mark, open_mark, close_mark, break_mark, is_plain, Front, tag_front, text_front, unbuilt_front, front_of, with_char, with_text, marks_from, marks_after, marks_of, begins_with_text, is_plain_text, is_plain_marks}
 
 pub marks_of-nil : marks_of [] ≡ Some []
 unfolding marks_of marks_after
@@ -84,7 +84,7 @@ text-well c [] p h = absurd (true≢false (sym h))
 text-well c (d ∷ s) p h = rw p h
 
 -- the first text of marks that can stand, and what follows it
-first-well : (s : List ℕ) (ms : List PlainMark) → IsTrue (is_plain_marks (text_mark s ∷ ms)) → IsTrue (is_plain_text s) × IsTrue (not (begins_with_text ms)) × IsTrue (is_plain_marks ms)
+pub first-well : (s : List ℕ) (ms : List PlainMark) → IsTrue (is_plain_marks (text_mark s ∷ ms)) → IsTrue (is_plain_text s) × IsTrue (not (begins_with_text ms)) × IsTrue (is_plain_marks ms)
 unfolding is_plain_marks
 first-well s ms h =
     let outer = parts_of _ _ h in

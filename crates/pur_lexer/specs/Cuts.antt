@@ -1,5 +1,5 @@
 -- What a cut says of the text that it was cut from.
-use Rattle.std.specs.Prelude.{ℕ, ◌+◌, ◌≡◌, ◌<◌, List, [], ◌∷◌, length, Option, None, Some, option_map, IsAscii}
+use Rattle.std.specs.Prelude.{ℕ, ◌<◌, List, ◌∷◌, length, Option, None, option_map, IsAscii}
 use Rattle.pur_lexer.specs.Marks.{PlainMark, text_mark, open_mark, close_mark, break_mark, marks_of}
 use Rattle.pur_lexer.specs.declared.cuts.Cut.{Cut}
 use Rattle.pur_lexer.specs.declared.cuts.Cut.TheVariants.{Open, Close, Break, Text, Unbuilt}

@@ -1,5 +1,5 @@
 -- What a text is read as: runs of text, the tags `<p>` and `</p>`, and `<br />` (XHTML 1.0: the elements `p` and `br`).
-use Rattle.std.specs.Prelude.{ℕ, zero, suc, ◌-◌, Bool, true, false, not, ◌&&◌, ◌||◌, List, [], ◌∷◌, Option, None, Some, option_map, if◌then◌else◌, nat_eq, nat_lt, nat_le, string_bytes, chars, codes}
+use Rattle.std.specs.Prelude.{ℕ, zero, suc, ◌-◌, Bool, true, false, not, ◌&&◌, ◌||◌, List, [], ◌∷◌, ◌++◌, ◌≡◌, ◌↔◌, IsTrue, Option, None, Some, option_map, if◌then◌else◌, nat_eq, nat_lt, nat_le, string_bytes, chars, codes}
 use Rattle.std.specs.List.{starts_with, list_all}
 use Rattle.pur_lexer.specs.declared.marks.Mark.{Mark}
 use Rattle.pur_lexer.specs.declared.marks.Mark.TheVariants.{Text, Open, Close, Break}
@@ -84,3 +84,19 @@ is_plain_marks (text_mark s ∷ ms) = is_plain_text s && not (begins_with_text m
 is_plain_marks (open_mark ∷ ms) = is_plain_marks ms
 is_plain_marks (close_mark ∷ ms) = is_plain_marks ms
 is_plain_marks (break_mark ∷ ms) = is_plain_marks ms
+
+-- how a mark is written
+abbrev pub spelling_of_mark : PlainMark → List ℕ
+spelling_of_mark (text_mark s) = s
+spelling_of_mark open_mark = codes "<p>"
+spelling_of_mark close_mark = codes "</p>"
+spelling_of_mark break_mark = codes "<br />"
+
+-- the text that marks spell
+unfoldable pub spelled_by : List PlainMark → List ℕ
+spelled_by [] = []
+spelled_by (m ∷ ms) = spelling_of_mark m ++ spelled_by ms
+
+-- a text is read as marks exactly where these can stand and spell it, so no other marks that can stand spell it, and none where none do
+abbrev pub ReadingInvertsSpelling : Type 0
+ReadingInvertsSpelling = (t : List ℕ) (ms : List PlainMark) → (marks_of t ≡ Some ms) ↔ (IsTrue (is_plain_marks ms) × (spelled_by ms ≡ t))

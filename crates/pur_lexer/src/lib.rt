@@ -6,4 +6,4 @@ mod cuts;
 mod marks;
 mod plain;
 
-pub use marks::{Mark, read_marks};
+pub use marks::{Mark, read_marks, reading_inverts_spelling};

@@ -1,6 +1,6 @@
 // The marks of a text, and how they are read.
 ghost use Rattle.std.specs.Prelude.{◌≡◌, map, option_map, string_bytes, IfOk, IsAscii};
-ghost use Rattle.pur_lexer.specs.Marks.{plain_mark, marks_of};
+ghost use Rattle.pur_lexer.specs.Marks.{plain_mark, marks_of, ReadingInvertsSpelling};
 
 use crate::cuts::{Cut, cut_front};
 use std::alloc::{AllocError, Global};
@@ -50,6 +50,11 @@ pub fn read_marks(alloc: Global, bytes: &[u8]) -> Result<Option<Vec<Mark>>, Allo
     }
     Ok(Some(marks))
 }
+
+/// Reading undoes spelling: the marks of a text are those that can stand and spell it, and a text that no such marks spell has none.
+pub fn reading_inverts_spelling()
+    ensures { ReadingInvertsSpelling }
+{}
 
 // A run of plain text, owned.
 fn text_of(alloc: Global, run: &[u8]) -> Result<String, AllocError>

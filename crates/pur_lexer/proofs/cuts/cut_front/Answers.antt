@@ -1,5 +1,5 @@
 -- Each front by its lemma.
-use Rattle.std.proofs.Common.{rules, ◌≡◌, ◌<◌, length, ap, ◌∙◌, Some, None, codes, false}
+use Rattle.std.proofs.Common.{◌≡◌, ap, ◌∙◌, Some, None, codes, false}
 use Rattle.std.proofs.lemmas.Bool.Decides.{Decides-eqb}
 use Rattle.std.proofs.lemmas.Slice.Eq.{strip_prefix_is}
 use Rattle.pur_lexer.specs.Marks.{marks_of}

@@ -1,8 +1,8 @@
 -- Each mark that is read stands before those of the rest.
-use Rattle.std.proofs.Common.{rules, refl, sym, ap, ◌≡◌, ◌∙◌, map, string_bytes, chars}
+use Rattle.std.proofs.Common.{sym, ap, ◌≡◌, ◌∙◌, string_bytes, chars}
 use Rattle.std.proofs.lemmas.Bool.{eqb-true}
 use Rattle.std.proofs.lemmas.Str.{chars-IsAscii}
-use Rattle.pur_lexer.specs.Marks.{plain_mark, marks_of, text_mark}
+use Rattle.pur_lexer.specs.Marks.{marks_of}
 use Rattle.pur_lexer.proofs.CutLemmas.{none_read, mark_read, all_read, not_built_here}
 use Rattle.pur_lexer.specs.declared.marks.Mark.TheVariants.{Text, Open, Close, Break}
 use Rattle.pur_lexer.proofs.marks.read_marks.Goals as goal

@@ -1,5 +1,5 @@
 -- The marks that stand, and then those of the rest, are the marks of the whole text.
-use Rattle.std.proofs.Common.{◌≡◌, map, option_map, ◌++◌, length}
+use Rattle.std.proofs.Common.{◌≡◌, map, length}
 use Rattle.pur_lexer.specs.Marks.{plain_mark, marks_of}
 use Rattle.pur_lexer.proofs.CutLemmas.{with_marks_before}
 use Rattle.pur_lexer.proofs.marks.read_marks.Given as goal

@@ -1,5 +1,4 @@
 -- ASCII is UTF-8.
-use Rattle.std.proofs.Common.{refl}
 use Rattle.std.proofs.lemmas.Str.{IsUtf8-from_ascii}
 use Rattle.pur_lexer.proofs.marks.text_of.Goals as goal
 
