@@ -1,0 +1,11 @@
+-- The marks that stand, and then those of the rest, are the marks of the whole text.
+use Rattle.std.proofs.Common.{◌≡◌, map, length}
+use Rattle.pur_lexer.specs.Marks.{plain_mark, marks_of}
+use Rattle.pur_lexer.proofs.CutLemmas.{with_marks_before}
+use Rattle.pur_lexer.proofs.marks.read_marks.Given as goal
+
+abbrev pub invariant-reading : goal.invariant-reading
+invariant-reading l = with_marks_before (map plain_mark l.marks.items) (marks_of l.rest) ≡ marks_of l.fn.bytes
+
+abbrev pub decreases-reading : goal.decreases-reading
+decreases-reading l = length l.rest
