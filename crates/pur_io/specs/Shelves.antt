@@ -1,4 +1,4 @@
-use Rattle.std.specs.Prelude.{ℕ, ◌+◌, ◌-◌, min, Bool, not, ◌||◌, List, length, Option}
+use Rattle.std.specs.Prelude.{ℕ, ◌-◌, min, Bool, not, ◌||◌, List, length, Option}
 use Rattle.pur_io.specs.Faults.{one_more, is_failing}
 use Rattle.pur_io.specs.Texts.{Name, text_chosen, is_named, is_chosen}
 

@@ -1,6 +1,6 @@
 //! The calls of an object in memory that are to fail, and the count of those that failed.
 
-ghost use Rattle.std.specs.Prelude.{◌≡◌, [], ℕ, vec_items};
+ghost use Rattle.std.specs.Prelude.{◌≡◌};
 ghost use Rattle.pur_io.specs.Faults.{one_more, is_failing};
 
 use crate::traits::Failed;

@@ -1,6 +1,6 @@
 //! Standard input, and later files, as a shelf.
 
-ghost use Rattle.std.specs.Prelude.{◌≡◌, ◌≢◌, ℕ, ◌^◌, ◌<◌, ◌≤◌, length, Some, None, option_map, string_bytes, is_err, is_some, IfOk, OnErr, IsErr};
+ghost use Rattle.std.specs.Prelude.{◌≡◌, ◌≢◌, ◌^◌, ◌<◌, ◌≤◌, length, Some, None, option_map, string_bytes, is_err, is_some, IfOk, OnErr, IsErr};
 ghost use Rattle.pur_io.specs.Faults.{one_more, HasCause};
 ghost use Rattle.pur_io.specs.Texts.{plain_name};
 ghost use Rattle.pur_io.specs.Shelves.{FileShelfState};

@@ -1,6 +1,6 @@
 //! A shelf in memory, whose calls fail on order.
 
-ghost use Rattle.std.specs.Prelude.{◌≡◌, ℕ, ◌<◌, ◌≤◌, length, Some, None, option_map, string_bytes, is_err, IfOk, IfSome, OnErr};
+ghost use Rattle.std.specs.Prelude.{◌≡◌, ◌<◌, ◌≤◌, length, Some, None, option_map, string_bytes, is_err, IfOk, OnErr};
 ghost use Rattle.pur_io.specs.Faults.{one_more, HasCause};
 ghost use Rattle.pur_io.specs.Texts.{text_chosen, plain_name, plain_texts, ReadsAt, HasDistinctNames};
 ghost use Rattle.pur_io.specs.Shelves.{MemShelfState, choice_fails, read_fails, read_count};

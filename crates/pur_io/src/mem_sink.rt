@@ -1,6 +1,6 @@
 //! A sink in memory, whose calls fail on order.
 
-ghost use Rattle.std.specs.Prelude.{◌≡◌, ℕ, ◌<◌, ◌≤◌, [], ◌++◌, length, take, vec_len, vec_capacity, Some, is_err, IfOk, OnErr};
+ghost use Rattle.std.specs.Prelude.{◌≡◌, ◌<◌, ◌≤◌, [], ◌++◌, length, take, vec_len, vec_capacity, Some, is_err, IfOk, OnErr};
 ghost use Rattle.pur_io.specs.Faults.{one_more, HasCause};
 ghost use Rattle.pur_io.specs.Sinks.{MemSinkState, write_fails, write_count};
 

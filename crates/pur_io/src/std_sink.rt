@@ -1,6 +1,6 @@
 //! A standard stream as a sink.
 
-ghost use Rattle.std.specs.Prelude.{◌≡◌, ℕ, ◌^◌, ◌<◌, ◌≤◌, length, None, IfOk, OnErr};
+ghost use Rattle.std.specs.Prelude.{◌≡◌, ◌^◌, ◌<◌, ◌≤◌, length, None, IfOk, OnErr};
 ghost use Rattle.pur_io.specs.Faults.{one_more, HasCause};
 ghost use Rattle.pur_io.specs.Sinks.{StdSinkState};
 

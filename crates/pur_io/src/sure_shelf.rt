@@ -1,7 +1,6 @@
 //! A shelf in memory that never fails.
 
-ghost use Rattle.std.specs.Prelude.{◌≡◌, ℕ, ◌<◌, ◌≤◌, min, length, Some, None, option_map, string_bytes, IsOk, IfOk, IfSome, OnErr};
-ghost use Rattle.pur_io.specs.Faults.{HasCause};
+ghost use Rattle.std.specs.Prelude.{◌≡◌, ◌<◌, ◌≤◌, min, length, Some, None, option_map, string_bytes, IsOk, IfOk};
 ghost use Rattle.pur_io.specs.Texts.{text_chosen, plain_name, plain_texts, ReadsAt, HasDistinctNames};
 ghost use Rattle.pur_io.specs.Shelves.{SureShelfState, left_of};
 

@@ -1,6 +1,6 @@
 //! A sink that never fails, and keeps nothing.
 
-ghost use Rattle.std.specs.Prelude.{◌≡◌, ℕ, ◌+◌, ◌-◌, ◌^◌, ◌<◌, min, length, None, IsOk, IfOk};
+ghost use Rattle.std.specs.Prelude.{◌≡◌, ◌+◌, ◌-◌, ◌^◌, ◌<◌, min, length, None, IsOk, IfOk};
 ghost use Rattle.pur_io.specs.Sinks.{SureSinkState};
 
 use crate::traits::{Failed, Sink};

@@ -1,7 +1,7 @@
 //! Tests of what lies outside the clauses: worked cases, each object through its trait, and streams
 //! that fail.
 
-ghost use Rattle.std.specs.Prelude.{◌≤◌, IfOk};
+ghost use Rattle.std.specs.Prelude.{IfOk};
 ghost use Rattle.pur_io.specs.Texts.{plain_texts, HasDistinctNames};
 
 use crate::{FileShelf, MemShelf, MemSink, Shelf, Sink, StdSink, SureShelf, SureSink};

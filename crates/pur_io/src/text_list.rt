@@ -1,6 +1,6 @@
 //! Named texts in memory, and the place in the one that was chosen.
 
-ghost use Rattle.std.specs.Prelude.{◌≡◌, ℕ, ◌+◌, ◌<◌, ◌≤◌, min, [], length, Some, None, option_map, is_some, IfSome, IfNone};
+ghost use Rattle.std.specs.Prelude.{◌≡◌, ◌+◌, ◌<◌, ◌≤◌, min, [], length, Some, None, option_map, is_some, IfSome, IfNone};
 ghost use Rattle.pur_io.specs.Texts.{same_name, text_named, is_named, text_chosen, is_chosen, plain_name, plain_texts, ReadsAt};
 ghost use Rattle.pur_io.specs.Shelves.{left_of};
 

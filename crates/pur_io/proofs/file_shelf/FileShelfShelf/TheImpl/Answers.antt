@@ -1,8 +1,7 @@
 -- A shelf over the real world tells no texts, so nothing is owed of what was read, and its place is
 -- always the same.
-use Rattle.std.proofs.Common.{◌≡◌, ℕ, Result, Ok, Err, IfOk, OnErr, refl}
+use Rattle.std.proofs.Common.{◌≡◌, Ok, Err, IfOk, OnErr, refl}
 use Rattle.std.specs.Prelude.{⊤}
-use Rattle.pur_io.specs.declared.traits.Failed.{Failed}
 use Rattle.pur_io.proofs.file_shelf.FileShelfShelf.TheImpl.Goals as goal
 
 pub read-tells : goal.read-tells
