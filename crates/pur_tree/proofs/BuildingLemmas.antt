@@ -3,7 +3,7 @@ use Rattle.std.proofs.lemmas.Bool.{lt-ltb}
 use Rattle.pur_tree.specs.declared.element.Element.{Element}
 use Rattle.pur_tree.specs.declared.node.Node.{Node}
 use Rattle.pur_tree.specs.declared.builder.Outer.{Outer}
-use Rattle.pur_tree.specs.Elements.{is_empty}
+use Rattle.pur_tree.specs.Elements.{is_empty_element}
 use Rattle.pur_tree.specs.Nodes.{Nodes, no_nodes, text_first, elem_first, nodes_append, is_sound, is_joined, has_no_nodes, starts_with_text}
 use Rattle.pur_tree.specs.Image.{nodes_of}
 use Rattle.pur_tree.specs.Building.{finished, opened_by, written_before, closings_of, can_hold, last_of, ends_with_text, text_nodes, Fits, IsBuilding}
@@ -83,11 +83,11 @@ finished_has_nodes o os kids = go (nodes_of o.before.items)
 
 -- an open element may go on holding what is below it where the innermost one may hold the new children
 holds : (e : Element) (os : List Outer) (a b : Nodes) → (has_no_nodes b ≡ false → (can_hold (e ∷ opened_by os) ≡ true) ⊎ (has_no_nodes a ≡ false))
-    → (not (is_empty e) || has_no_nodes (finished os a)) ≡ true → (not (is_empty e) || has_no_nodes (finished os b)) ≡ true
+    → (not (is_empty_element e) || has_no_nodes (finished os a)) ≡ true → (not (is_empty_element e) || has_no_nodes (finished os b)) ≡ true
 holds e [] a b h p = go (has_no_nodes b) refl
   where
-    go : (x : Bool) → has_no_nodes b ≡ x → (not (is_empty e) || has_no_nodes b) ≡ true
-    go true q = rw q (or_true (not (is_empty e)))
+    go : (x : Bool) → has_no_nodes b ≡ x → (not (is_empty_element e) || has_no_nodes b) ≡ true
+    go true q = rw q (or_true (not (is_empty_element e)))
     go false q = elim (h q) [ inl w ↦ rw w refl | inr w ↦ rw q (rw w at p) ]
 holds e (o ∷ os) a b h p = rw (finished_has_nodes o os b) (rw (finished_has_nodes o os a) at p)
 
@@ -181,7 +181,7 @@ IsBuilding-enter os o cs t b deep holds same = record {
   fits = rw (finished-more os o no_nodes, same)
       (Fits-finished os 0 (length os) (nodes_append (nodes_of cs) (text_nodes t)) (nodes_append (nodes_append (nodes_of cs) (text_nodes t)) (elem_first o.name no_nodes no_nodes)) (omega arith)
       (λ p. Fits-append (length os) (nodes_append (nodes_of cs) (text_nodes t)) (elem_first o.name no_nodes no_nodes) refl p
-      (record { low = omega arith; sound = rw (or_true (not (is_empty o.name))) refl; joined = refl }))
+      (record { low = omega arith; sound = rw (or_true (not (is_empty_element o.name))) refl; joined = refl }))
       (λ q. inl holds) b.fits);
   deep = omega (arith, length-append os (o ∷ []));
   ended = refl;

@@ -4,7 +4,7 @@ use Rattle.std.proofs.lemmas.Bool.{ltb-true}
 use Rattle.std.proofs.lemmas.List.{append_cancel_left}
 use Rattle.pur_tree.specs.declared.element.Element.{Element}
 use Rattle.pur_tree.specs.declared.element.Element.TheVariants.{P, Br}
-use Rattle.pur_tree.specs.Elements.{name_of, is_empty}
+use Rattle.pur_tree.specs.Elements.{name_of, is_empty_element}
 use Rattle.pur_tree.specs.Nodes.{Nodes, no_nodes, text_first, elem_first, is_sound, is_joined, has_no_nodes, starts_with_text}
 use Rattle.pur_tree.specs.Spelling.{is_markup, start_tag_of, end_tag_of, empty_tag_of, spelling_of, has_plain_texts, Spells, spells_nothing, spells_text, spells_empty, spells_element}
 use Rattle.pur_tree.proofs.NodesLemmas.{left_of, right_of}
@@ -30,12 +30,12 @@ Spells-spelling (text_first [] n) s j p = absurd (omega (arith, ltb-true 0 0 (le
 Spells-spelling (text_first (c ∷ t) n) s j p =
     spells_text (false_of _ (left_of _ _ p)) (false_of _ (left_of _ _ j)) (Spells-spelling n (right_of _ _ s) (right_of _ _ j) (right_of _ _ p))
 Spells-spelling (elem_first e k n) s j p =
-    go (is_empty e) refl (Spells-spelling n (right_of _ _ (right_of _ _ s)) (right_of _ _ j) (right_of _ _ p))
+    go (is_empty_element e) refl (Spells-spelling n (right_of _ _ (right_of _ _ s)) (right_of _ _ j) (right_of _ _ p))
     (Spells-spelling k (left_of _ _ (right_of _ _ s)) (left_of _ _ j) (left_of _ _ p))
   where
-    go : (b : Bool) → is_empty e ≡ b → Spells n (spelling_of n) → Spells k (spelling_of k) → Spells (elem_first e k n) (spelling_of (elem_first e k n))
+    go : (b : Bool) → is_empty_element e ≡ b → Spells n (spelling_of n) → Spells k (spelling_of k) → Spells (elem_first e k n) (spelling_of (elem_first e k n))
     go true h more inner =
-        let w = left_of (not (is_empty e) || has_no_nodes k) (is_sound k && is_sound n) s in
+        let w = left_of (not (is_empty_element e) || has_no_nodes k) (is_sound k && is_sound n) s in
         let kn : k ≡ no_nodes = none_of k (rw h at w) in
         rw (kn, h) (spells_empty h more)
     go false h more inner = rw h (spells_element h inner more)

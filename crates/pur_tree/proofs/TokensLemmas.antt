@@ -1,6 +1,6 @@
-use Rattle.std.proofs.Common.{◌≡◌, ℕ, List, [], ◌∷◌, ◌++◌, refl, ap, sym, ◌∙◌, Bool, true, false, ◌&&◌, ◌||◌, not, append_assoc, cond}
+use Rattle.std.proofs.Common.{◌≡◌, ℕ, List, [], ◌∷◌, ◌++◌, refl, ap, sym, ◌∙◌, Bool, true, false, ◌&&◌, ◌||◌, not, append_assoc, append-nil, cond}
 use Rattle.pur_tree.specs.declared.element.Element.{Element}
-use Rattle.pur_tree.specs.Elements.{is_empty}
+use Rattle.pur_tree.specs.Elements.{is_empty_element}
 use Rattle.pur_tree.specs.Nodes.{Nodes, no_nodes, text_first, elem_first, is_sound, is_joined, has_no_nodes}
 use Rattle.pur_tree.specs.Building.{ends_with_text}
 use Rattle.pur_tree.specs.Tokens.{Token, text_token, start_token, end_token, empty_token, tokens_of_nodes, opening_of, join_token, joined}
@@ -24,7 +24,7 @@ text_before s (empty_token e ∷ x) h = refl
 
 -- a text stays by itself in front of an opening token
 text_opening : (s : List ℕ) (e : Element) (x : List Token) → join_token (text_token s) (opening_of e ∷ x) ≡ text_token s ∷ opening_of e ∷ x
-text_opening s e x = go (is_empty e)
+text_opening s e x = go (is_empty_element e)
   where
     go : (b : Bool) → join_token (text_token s) (cond b (empty_token e) (start_token e) ∷ x) ≡ text_token s ∷ cond b (empty_token e) (start_token e) ∷ x
     go true = refl
@@ -32,14 +32,14 @@ text_opening s e x = go (is_empty e)
 
 -- nothing joins an opening token
 pub joined-opening : (e : Element) (x : List Token) → joined (opening_of e ∷ x) ≡ opening_of e ∷ joined x
-joined-opening e x = go (is_empty e)
+joined-opening e x = go (is_empty_element e)
   where
     go : (b : Bool) → joined (cond b (empty_token e) (start_token e) ∷ x) ≡ cond b (empty_token e) (start_token e) ∷ joined x
     go true = refl
     go false = refl
 
 pub opening_is_no_text : (e : Element) (x : List Token) → begins_with_text (opening_of e ∷ x) ≡ false
-opening_is_no_text e x = go (is_empty e)
+opening_is_no_text e x = go (is_empty_element e)
   where
     go : (b : Bool) → begins_with_text (cond b (empty_token e) (start_token e) ∷ x) ≡ false
     go true = refl
@@ -64,17 +64,47 @@ joined-tokens (text_first t (text_first u f)) x j s m = absurd (cc)
 joined-tokens (text_first t (elem_first e k f)) x j s m =
     ap (join_token (text_token t)) (joined-tokens (elem_first e k f) x j (right_of _ _ s) m) ∙ text_opening t e _
 joined-tokens (elem_first e k f) x j s m =
-    go (is_empty e) refl (joined-tokens f x (right_of _ _ j) (right_of _ _ (right_of _ _ s)) m)
+    go (is_empty_element e) refl (joined-tokens f x (right_of _ _ j) (right_of _ _ (right_of _ _ s)) m)
     (λ y h. joined-tokens k y (left_of _ _ j) (left_of _ _ (right_of _ _ s)) h)
   where
-    go : (b : Bool) → is_empty e ≡ b
+    go : (b : Bool) → is_empty_element e ≡ b
         → joined (tokens_of_nodes f ++ x) ≡ tokens_of_nodes f ++ joined x
         → ((y : List Token) → (ends_with_text k && begins_with_text y) ≡ false → joined (tokens_of_nodes k ++ y) ≡ tokens_of_nodes k ++ joined y)
         → joined (tokens_of_nodes (elem_first e k f) ++ x) ≡ tokens_of_nodes (elem_first e k f) ++ joined x
     go true h r q =
-        let w = left_of (not (is_empty e) || has_no_nodes k) (is_sound k && is_sound f) s in
+        let w = left_of (not (is_empty_element e) || has_no_nodes k) (is_sound k && is_sound f) s in
         let kn : k ≡ no_nodes = none_of k (rw h at w) in
         rw (kn, h) (ap (λ ts. empty_token e ∷ ts) r)
     go false h r q =
         rw h (ap (λ ts. start_token e ∷ ts)
         (ap joined (append_assoc (tokens_of_nodes k) (end_token e ∷ tokens_of_nodes f) x) ∙ q (end_token e ∷ (tokens_of_nodes f ++ x)) (never (ends_with_text k)) ∙ ap (λ ts. tokens_of_nodes k ++ (end_token e ∷ ts)) r ∙ sym (append_assoc (tokens_of_nodes k) (end_token e ∷ tokens_of_nodes f) (joined x))))
+
+-- the tokens of joined nodes are joined already
+pub joined-tree : (f : Nodes) (ts : List Token) → is_joined f ≡ true → is_sound f ≡ true → tokens_of_nodes f ≡ ts → joined ts ≡ ts
+joined-tree f ts j s e =
+    rw (← e)
+        (ap joined (sym (append-nil (tokens_of_nodes f))) ∙ joined-tokens f [] j s (never (ends_with_text f)) ∙ append-nil (tokens_of_nodes f))
+
+-- two texts join what stands behind them one after the other
+join_token-twice : (s t : List ℕ) (x : List Token) → join_token (text_token (s ++ t)) x ≡ join_token (text_token s) (join_token (text_token t) x)
+join_token-twice s t [] = refl
+join_token-twice s t (text_token u ∷ x) = ap (λ v. text_token v ∷ x) (append_assoc s t u)
+join_token-twice s t (start_token e ∷ x) = refl
+join_token-twice s t (end_token e ∷ x) = refl
+join_token-twice s t (empty_token e ∷ x) = refl
+
+-- a token joins what follows it before or after that is joined to what is behind
+joined-join_token : (t : Token) (x b : List Token) → joined (join_token t x ++ b) ≡ join_token t (joined (x ++ b))
+joined-join_token (text_token s) [] b = refl
+joined-join_token (text_token s) (text_token u ∷ x) b = join_token-twice s u (joined (x ++ b))
+joined-join_token (text_token s) (start_token e ∷ x) b = refl
+joined-join_token (text_token s) (end_token e ∷ x) b = refl
+joined-join_token (text_token s) (empty_token e ∷ x) b = refl
+joined-join_token (start_token e) x b = refl
+joined-join_token (end_token e) x b = refl
+joined-join_token (empty_token e) x b = refl
+
+-- joining the front first changes nothing
+pub joined-joined : (a b : List Token) → joined (joined a ++ b) ≡ joined (a ++ b)
+joined-joined [] b = refl
+joined-joined (t ∷ a) b = joined-join_token t (joined a) b ∙ ap (join_token t) (joined-joined a b)

@@ -1,7 +1,8 @@
-use Rattle.std.proofs.Common.{◌≡◌, List, [], ◌∷◌, ◌++◌, refl, ap, sym, ◌∙◌, Bool, true, false, ◌&&◌, ◌||◌, not, append_assoc, append-nil}
-use Rattle.pur_tree.specs.Elements.{is_empty}
+use Rattle.std.proofs.Common.{◌≡◌, ℕ, List, [], ◌∷◌, ◌++◌, refl, ap, sym, ◌∙◌, Bool, true, false, ◌&&◌, ◌||◌, not, append_assoc, append-nil}
+use Rattle.pur_tree.specs.declared.element.Element.{Element}
+use Rattle.pur_tree.specs.Elements.{is_empty_element}
 use Rattle.pur_tree.specs.Nodes.{Nodes, no_nodes, text_first, elem_first, nodes_append, is_sound, has_no_nodes}
-use Rattle.pur_tree.specs.Tokens.{Token, text_token, start_token, end_token, empty_token, tokens_of_nodes, Levels, with_token, levels_of, tree_of}
+use Rattle.pur_tree.specs.Tokens.{Token, text_token, start_token, end_token, empty_token, tokens_of_nodes, Levels, with_token, levels_of, tree_of, first_level, other_levels, join_token, joined, IsBalanced, balanced_nothing, balanced_text, balanced_empty, balanced_start, balanced_stop}
 use Rattle.pur_tree.proofs.NodesLemmas.{left_of, right_of, nodes_append-none}
 use Rattle.pur_tree.proofs.TokensLemmas.{none_of}
 
@@ -14,13 +15,13 @@ pub levels-tokens : (n : Nodes) (x : List Token) → is_sound n ≡ true → lev
 levels-tokens no_nodes x s = refl
 levels-tokens (text_first t n) x s = ap (with_token (text_token t)) (levels-tokens n x (right_of _ _ s))
 levels-tokens (elem_first e k n) x s =
-    go (is_empty e) refl (levels-tokens n x (right_of _ _ (right_of _ _ s))) (λ y. levels-tokens k y (left_of _ _ (right_of _ _ s)))
+    go (is_empty_element e) refl (levels-tokens n x (right_of _ _ (right_of _ _ s))) (λ y. levels-tokens k y (left_of _ _ (right_of _ _ s)))
   where
-    go : (b : Bool) → is_empty e ≡ b → levels_of (tokens_of_nodes n ++ x) ≡ in_front n (levels_of x)
+    go : (b : Bool) → is_empty_element e ≡ b → levels_of (tokens_of_nodes n ++ x) ≡ in_front n (levels_of x)
         → ((y : List Token) → levels_of (tokens_of_nodes k ++ y) ≡ in_front k (levels_of y))
         → levels_of (tokens_of_nodes (elem_first e k n) ++ x) ≡ in_front (elem_first e k n) (levels_of x)
     go true h r q =
-        let w = left_of (not (is_empty e) || has_no_nodes k) (is_sound k && is_sound n) s in
+        let w = left_of (not (is_empty_element e) || has_no_nodes k) (is_sound k && is_sound n) s in
         let kn : k ≡ no_nodes = none_of k (rw h at w) in
         rw (kn, h) (ap (with_token (empty_token e)) r)
     go false h r q =
@@ -32,3 +33,54 @@ levels-tokens (elem_first e k n) x s =
 pub tree_of-tokens : (n : Nodes) → is_sound n ≡ true → tree_of (tokens_of_nodes n) ≡ n
 tree_of-tokens n s =
     ap tree_of (sym (append-nil (tokens_of_nodes n))) ∙ ap (λ (l : Levels). l.here) (levels-tokens n [] s) ∙ nodes_append-none n
+
+-- the tokens of some levels, which the end tags of the open elements part
+abbrev pub tokens_of_levels : List Element → Levels → List Token
+tokens_of_levels [] l = tokens_of_nodes l.here
+tokens_of_levels (e ∷ es) l = tokens_of_nodes l.here ++ (end_token e ∷ tokens_of_levels es (record { here = first_level l.outer; outer = other_levels l.outer }))
+
+-- more tokens in front of the innermost level
+tokens-in_front : (es : List Element) (a : List Token) (n m : Nodes) (outer : List Nodes) → tokens_of_nodes n ≡ a ++ tokens_of_nodes m
+    → tokens_of_levels es (record { here = n; outer = outer }) ≡ a ++ tokens_of_levels es (record { here = m; outer = outer })
+tokens-in_front [] a n m outer e = e
+tokens-in_front (d ∷ es) a n m outer e = ap (λ ts. ts ++ (end_token d ∷ tokens_of_levels es (record { here = first_level outer; outer = other_levels outer }))) e
+  ∙ append_assoc a (tokens_of_nodes m) (end_token d ∷ tokens_of_levels es (record { here = first_level outer; outer = other_levels outer }))
+
+-- an element's tokens, where it isn't EMPTY
+tokens-element : (e : Element) (k n : Nodes) → is_empty_element e ≡ false
+    → tokens_of_nodes (elem_first e k n) ≡ (start_token e ∷ (tokens_of_nodes k ++ (end_token e ∷ []))) ++ tokens_of_nodes n
+tokens-element e k n h = rw h (ap (λ ts. start_token e ∷ ts) (sym (append_assoc (tokens_of_nodes k) (end_token e ∷ []) (tokens_of_nodes n))))
+
+-- the levels of balanced tokens write these tokens out
+pub tokens-levels : {es : List Element} {ts : List Token} → IsBalanced es ts → tokens_of_levels es (levels_of ts) ≡ ts
+tokens-levels balanced_nothing = refl
+tokens-levels (balanced_text {es} {s} {ts} more) =
+  tokens-in_front es (text_token s ∷ []) (text_first s (levels_of ts).here) (levels_of ts).here (levels_of ts).outer refl ∙ ap (λ x. text_token s ∷ x) (tokens-levels more)
+tokens-levels (balanced_empty {es} {e} {ts} h more) =
+  tokens-in_front es (empty_token e ∷ []) (elem_first e no_nodes (levels_of ts).here) (levels_of ts).here (levels_of ts).outer (rw h refl) ∙ ap (λ x. empty_token e ∷ x) (tokens-levels more)
+tokens-levels (balanced_start {es} {e} {ts} h more) =
+  tokens-in_front es (start_token e ∷ (tokens_of_nodes (levels_of ts).here ++ (end_token e ∷ []))) (elem_first e (levels_of ts).here (first_level (levels_of ts).outer))
+    (first_level (levels_of ts).outer) (other_levels (levels_of ts).outer) (tokens-element e (levels_of ts).here (first_level (levels_of ts).outer) h)
+  ∙ ap (λ x. start_token e ∷ x) (append_assoc (tokens_of_nodes (levels_of ts).here) (end_token e ∷ [])
+      (tokens_of_levels es (record { here = first_level (levels_of ts).outer; outer = other_levels (levels_of ts).outer })) ∙ tokens-levels more)
+tokens-levels (balanced_stop {es} {e} {ts} h more) = ap (λ x. end_token e ∷ x) (tokens-levels more)
+
+-- the tree of balanced tokens has these tokens
+pub tokens-tree_of : {ts : List Token} → IsBalanced [] ts → tokens_of_nodes (tree_of ts) ≡ ts
+tokens-tree_of b = tokens-levels b
+
+-- a text in front of balanced tokens joins them
+joined-text_balanced : {es : List Element} {ts : List Token} (s : List ℕ) → IsBalanced es ts → IsBalanced es (join_token (text_token s) ts)
+joined-text_balanced s balanced_nothing = balanced_text balanced_nothing
+joined-text_balanced s (balanced_text more) = balanced_text more
+joined-text_balanced s (balanced_empty h more) = balanced_text (balanced_empty h more)
+joined-text_balanced s (balanced_start h more) = balanced_text (balanced_start h more)
+joined-text_balanced s (balanced_stop h more) = balanced_text (balanced_stop h more)
+
+-- balanced tokens stay balanced where neighbouring texts are joined
+pub joined-balanced : {es : List Element} {ts : List Token} → IsBalanced es ts → IsBalanced es (joined ts)
+joined-balanced balanced_nothing = balanced_nothing
+joined-balanced (balanced_text {es} {s} {ts} more) = joined-text_balanced s (joined-balanced more)
+joined-balanced (balanced_empty h more) = balanced_empty h (joined-balanced more)
+joined-balanced (balanced_start h more) = balanced_start h (joined-balanced more)
+joined-balanced (balanced_stop h more) = balanced_stop h (joined-balanced more)

@@ -3,7 +3,7 @@ use Rattle.pur_tree.specs.declared.element.Element.{Element}
 use Rattle.pur_tree.specs.declared.element.Element.TheVariants.{P}
 use Rattle.pur_tree.specs.declared.node.Node.{Node}
 use Rattle.pur_tree.specs.declared.builder.Outer.{Outer}
-use Rattle.pur_tree.specs.Elements.{is_empty}
+use Rattle.pur_tree.specs.Elements.{is_empty_element}
 use Rattle.pur_tree.specs.Nodes.{Nodes, no_nodes, text_first, elem_first, nodes_append, level_below, is_sound, is_joined}
 use Rattle.pur_tree.specs.Image.{nodes_of}
 use Rattle.pur_tree.specs.Tokens.{Token, opening_of, closing_of, tokens_of_nodes}
@@ -47,7 +47,7 @@ closings_of (e ∷ es) = closings_of es ++ closing_of e
 -- the innermost of the open elements, where there is one, may have children
 abbrev pub can_hold : List Element → Bool
 can_hold [] = true
-can_hold (e ∷ []) = not (is_empty e)
+can_hold (e ∷ []) = not (is_empty_element e)
 can_hold (e ∷ f ∷ es) = can_hold (f ∷ es)
 
 -- the innermost of open elements; where there is none, this says nothing

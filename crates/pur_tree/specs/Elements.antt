@@ -8,6 +8,6 @@ name_of P = codes "p"
 name_of Br = codes "br"
 
 -- an EMPTY element has no children and no end tag (XHTML 1.0, DTD)
-abbrev pub is_empty : Element → Bool
-is_empty P = false
-is_empty Br = true
+abbrev pub is_empty_element : Element → Bool
+is_empty_element P = false
+is_empty_element Br = true

@@ -1,6 +1,6 @@
-use Rattle.std.specs.Prelude.{ℕ, List, ◌≡◌, true}
+use Rattle.std.specs.Prelude.{ℕ, List, [], ◌≡◌, true}
 use Rattle.pur_tree.specs.Nodes.{Nodes, is_joined, is_sound}
-use Rattle.pur_tree.specs.Tokens.{Token, IsTreeOf, tree_of}
+use Rattle.pur_tree.specs.Tokens.{Token, IsBalanced, IsTreeOf, tree_of}
 use Rattle.pur_tree.specs.Spelling.{Spells, spelling_of, has_plain_texts}
 
 -- a text spells at most one list of nodes
@@ -18,3 +18,7 @@ HasSpelling = (n : Nodes) → is_sound n ≡ true → is_joined n ≡ true → h
 -- the tree of a flat list of tokens is the one list of nodes whose tokens they are
 abbrev pub HasOneTree : Type 0
 HasOneTree = (n : Nodes) (tokens : List Token) → is_sound n ≡ true → IsTreeOf n tokens → n ≡ tree_of tokens
+
+-- tokens in which each start tag has its end tag have a tree
+abbrev pub HasTree : Type 0
+HasTree = (tokens : List Token) → IsBalanced [] tokens → IsTreeOf (tree_of tokens) tokens

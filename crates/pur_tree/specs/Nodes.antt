@@ -1,6 +1,6 @@
 use Rattle.std.specs.Prelude.{ℕ, ◌+◌, List, length, Bool, true, false, max, ◌&&◌, ◌||◌, not, nat_lt}
 use Rattle.pur_tree.specs.declared.element.Element.{Element}
-use Rattle.pur_tree.specs.Elements.{is_empty}
+use Rattle.pur_tree.specs.Elements.{is_empty_element}
 
 -- a list of nodes as contracts see it: none, or a first node and the nodes after it;
 -- a text is the list of its characters, an element has a name and its children
@@ -48,4 +48,4 @@ has_no_nodes (elem_first e kids rest) = false
 abbrev pub is_sound : Nodes → Bool
 is_sound no_nodes = true
 is_sound (text_first s rest) = nat_lt 0 (length s) && is_sound rest
-is_sound (elem_first e kids rest) = (not (is_empty e) || has_no_nodes kids) && (is_sound kids && is_sound rest)
+is_sound (elem_first e kids rest) = (not (is_empty_element e) || has_no_nodes kids) && (is_sound kids && is_sound rest)

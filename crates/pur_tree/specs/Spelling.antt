@@ -1,7 +1,7 @@
 use Rattle.std.specs.Prelude.{ℕ, List, [], ◌∷◌, ◌++◌, ◌≡◌, Bool, true, false, ◌||◌, ◌&&◌, not, ◌==◌, cond, codes}
 use Rattle.std.specs.List.{list_any}
 use Rattle.pur_tree.specs.declared.element.Element.{Element}
-use Rattle.pur_tree.specs.Elements.{name_of, is_empty}
+use Rattle.pur_tree.specs.Elements.{name_of, is_empty_element}
 use Rattle.pur_tree.specs.Nodes.{Nodes, no_nodes, text_first, elem_first, starts_with_text}
 
 -- the characters that can't stand for themselves in a text: `&`, `<` and `>` (XML 1.0, section 2.4)
@@ -23,7 +23,7 @@ abbrev pub spelling_of : Nodes → List ℕ
 spelling_of no_nodes = []
 spelling_of (text_first s rest) = s ++ spelling_of rest
 spelling_of (elem_first e kids rest) =
-    cond (is_empty e)
+    cond (is_empty_element e)
     (empty_tag_of e ++ spelling_of rest)
     (start_tag_of e ++ (spelling_of kids ++ (end_tag_of e ++ spelling_of rest)))
 
@@ -40,7 +40,7 @@ pub data Spells : Nodes → List ℕ → Type 0 where
       → list_any is_markup (c ∷ s) ≡ false → starts_with_text rest ≡ false → Spells rest t
       → Spells (text_first (c ∷ s) rest) ((c ∷ s) ++ t)
   spells_empty : {e : Element} {rest : Nodes} {t : List ℕ}
-      → is_empty e ≡ true → Spells rest t → Spells (elem_first e no_nodes rest) (empty_tag_of e ++ t)
+      → is_empty_element e ≡ true → Spells rest t → Spells (elem_first e no_nodes rest) (empty_tag_of e ++ t)
   spells_element : {e : Element} {kids rest : Nodes} {u t : List ℕ}
-      → is_empty e ≡ false → Spells kids u → Spells rest t
+      → is_empty_element e ≡ false → Spells kids u → Spells rest t
       → Spells (elem_first e kids rest) (start_tag_of e ++ (u ++ (end_tag_of e ++ t)))

@@ -1,6 +1,6 @@
-use Rattle.std.specs.Prelude.{ℕ, List, [], ◌∷◌, ◌++◌, ◌≡◌, cond}
+use Rattle.std.specs.Prelude.{ℕ, List, [], ◌∷◌, ◌++◌, ◌≡◌, cond, true, false}
 use Rattle.pur_tree.specs.declared.element.Element.{Element}
-use Rattle.pur_tree.specs.Elements.{is_empty}
+use Rattle.pur_tree.specs.Elements.{is_empty_element}
 use Rattle.pur_tree.specs.Nodes.{Nodes, no_nodes, text_first, elem_first}
 
 -- a token of a document written out flat: a text, or the start tag, the end tag or the empty tag of an element
@@ -12,11 +12,11 @@ pub data Token : Type 0 where
 
 -- what opens an element: its start tag, and for an EMPTY element its empty tag
 abbrev pub opening_of : Element → Token
-opening_of e = cond (is_empty e) (empty_token e) (start_token e)
+opening_of e = cond (is_empty_element e) (empty_token e) (start_token e)
 
 -- what closes an element: its end tag, and for an EMPTY element nothing
 abbrev pub closing_of : Element → List Token
-closing_of e = cond (is_empty e) [] (end_token e ∷ [])
+closing_of e = cond (is_empty_element e) [] (end_token e ∷ [])
 
 -- the flat list of tokens that writes nodes out
 abbrev pub tokens_of_nodes : Nodes → List Token
@@ -72,3 +72,11 @@ levels_of (t ∷ ts) = with_token t (levels_of ts)
 -- the tree of a flat list of tokens in which each start tag has its end tag
 abbrev pub tree_of : List Token → Nodes
 tree_of tokens = (levels_of tokens).here
+
+-- each start tag has its end tag, inside the elements that are open, the innermost first; an EMPTY element has its empty tag alone
+pub data IsBalanced : List Element → List Token → Type 0 where
+  balanced_nothing : IsBalanced [] []
+  balanced_text : {es : List Element} {s : List ℕ} {ts : List Token} → IsBalanced es ts → IsBalanced es (text_token s ∷ ts)
+  balanced_empty : {es : List Element} {e : Element} {ts : List Token} → is_empty_element e ≡ true → IsBalanced es ts → IsBalanced es (empty_token e ∷ ts)
+  balanced_start : {es : List Element} {e : Element} {ts : List Token} → is_empty_element e ≡ false → IsBalanced (e ∷ es) ts → IsBalanced es (start_token e ∷ ts)
+  balanced_stop : {es : List Element} {e : Element} {ts : List Token} → is_empty_element e ≡ false → IsBalanced es ts → IsBalanced (e ∷ es) (end_token e ∷ ts)

@@ -119,6 +119,7 @@ impl Builder {
     /// Ends all open elements and gives the forest that was built.
     pub fn finish(mut self) -> Result<Forest, AllocError>
         ensures tree { IfOk result (λ forest. IsTreeOf (nodes_of forest) (written_of self ++ closings_of (opened_of self))) }
+        ensures settled { IfOk result (λ _. joined (written_of self ++ closings_of (opened_of self)) ≡ written_of self ++ closings_of (opened_of self)) }
         ensures joined { IfOk result (λ forest. IsTrue (is_joined (nodes_of forest))) }
     {
         'closing: while !self.outer.is_empty() {

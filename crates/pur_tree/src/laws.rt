@@ -1,5 +1,5 @@
 // Laws over the definitions, each the contract of a function that does nothing.
-ghost use Rattle.pur_tree.specs.Laws.{SpellsAtMostOne, SpelledAsItself, HasSpelling, HasOneTree};
+ghost use Rattle.pur_tree.specs.Laws.{SpellsAtMostOne, SpelledAsItself, HasSpelling, HasOneTree, HasTree};
 
 /// A text spells at most one list of nodes.
 pub fn spells_at_most_one()
@@ -20,3 +20,9 @@ pub fn has_spelling()
 pub fn has_one_tree()
     ensures { HasOneTree }
 {}
+
+/// Tokens in which each start tag has its end tag have a tree.
+pub fn has_tree()
+    ensures { HasTree }
+{
+}

@@ -17,5 +17,5 @@ mod node;
 pub use builder::Builder;
 pub use element::Element;
 pub use forest::Forest;
-pub use laws::{has_one_tree, has_spelling, spelled_as_itself, spells_at_most_one};
+pub use laws::{has_one_tree, has_spelling, has_tree, spelled_as_itself, spells_at_most_one};
 pub use node::{Elem, Node};

@@ -1,0 +1,4 @@
+pub mod ClosingLemmas
+pub mod FragmentLemmas
+pub mod StreamLemmas
+pub mod WritingLemmas

@@ -1,0 +1,5 @@
+pub mod Closing
+pub mod Limits
+pub mod Purified
+pub mod Reading
+pub mod Writing

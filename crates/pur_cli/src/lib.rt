@@ -1,0 +1,7 @@
+#![tactic(auto)]
+
+mod closing;
+mod engine;
+mod input;
+mod output;
+mod writing;
