@@ -3,5 +3,12 @@
 mod closing;
 mod engine;
 mod input;
+mod laws;
 mod output;
+mod program;
+mod status;
 mod writing;
+
+pub use laws::{good_is_unchanged, purified_is_good, twice_is_once};
+pub use program::run;
+pub use status::Status;

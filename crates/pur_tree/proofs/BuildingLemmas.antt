@@ -8,7 +8,7 @@ use Rattle.pur_tree.specs.Nodes.{Nodes, no_nodes, text_first, elem_first, nodes_
 use Rattle.pur_tree.specs.Image.{nodes_of}
 use Rattle.pur_tree.specs.Building.{finished, opened_by, written_before, closings_of, can_hold, last_of, ends_with_text, text_nodes, Fits, IsBuilding}
 use Rattle.pur_tree.specs.Tokens.{Token, text_token, tokens_of_nodes, opening_of, closing_of, joined}
-use Rattle.pur_tree.proofs.NodesLemmas.{left_of, right_of, both, tokens-append, level-append, nodes_append-none, sound-append, sound_front, sound_back, joined-append, joined_front, joined_back}
+use Rattle.pur_tree.proofs.NodesLemmas.{or_true, left_of, right_of, both, tokens-append, level-append, nodes_append-none, sound-append, sound_front, sound_back, joined-append, joined_front, joined_back}
 use Rattle.pur_tree.proofs.TokensLemmas.{begins_with_text, joined-tokens, joined-opening, opening_is_no_text, never}
 
 -- an element with what stands before it
@@ -49,10 +49,6 @@ tokens-finished (o ∷ os) kids =
     tokens-append (nodes_of o.before.items) (elem_first o.name (finished os kids) no_nodes)
     ∙ ap (λ ts. tokens_of_nodes (nodes_of o.before.items) ++ (opening_of o.name ∷ (ts ++ (closing_of o.name ++ [])))) (tokens-finished os kids)
     ∙ regroup (tokens_of_nodes (nodes_of o.before.items)) (written_before os) (tokens_of_nodes kids) (closings_of (opened_by os)) (closing_of o.name) (opening_of o.name)
-
-or_true : (b : Bool) → (b || true) ≡ true
-or_true true = refl
-or_true false = refl
 
 can_hold-tail : (e : Element) (es : List Element) → can_hold (e ∷ es) ≡ true → can_hold es ≡ true
 can_hold-tail e [] h = refl

@@ -1,4 +1,4 @@
-use Rattle.std.proofs.Common.{◌≡◌, ℕ, ◌++◌, refl, ap, Bool, true, false, max, ◌&&◌, not, arith, append_assoc}
+use Rattle.std.proofs.Common.{◌≡◌, ℕ, ◌++◌, refl, ap, Bool, true, false, max, ◌&&◌, ◌||◌, not, arith, append_assoc}
 use Rattle.pur_tree.specs.Nodes.{Nodes, no_nodes, text_first, elem_first, nodes_append, level_below, is_sound, is_joined, starts_with_text}
 use Rattle.pur_tree.specs.Tokens.{tokens_of_nodes}
 
@@ -25,6 +25,11 @@ level-append n (elem_first e k f) g = omega (arith, level-append n f g)
 -- a conjunction holds where both sides do
 pub both : {a b : Bool} → a ≡ true → b ≡ true → (a && b) ≡ true
 both p q = rw p q
+
+-- a disjunction holds where its right side does
+pub or_true : (b : Bool) → (b || true) ≡ true
+or_true true = refl
+or_true false = refl
 
 pub left_of : (a b : Bool) → (a && b) ≡ true → a ≡ true
 left_of true b h = refl

@@ -40,11 +40,11 @@ Spells-spelling (elem_first e k n) s j p =
         rw (kn, h) (spells_empty h more)
     go false h more inner = rw h (spells_element h inner more)
 
-neither_left : (a b : Bool) → (a || b) ≡ false → a ≡ false
+pub neither_left : (a b : Bool) → (a || b) ≡ false → a ≡ false
 neither_left true b h = h
 neither_left false b h = refl
 
-neither_right : (a b : Bool) → (a || b) ≡ false → b ≡ false
+pub neither_right : (a b : Bool) → (a || b) ≡ false → b ≡ false
 neither_right true b h = absurd (cc)
 neither_right false b h = h
 
