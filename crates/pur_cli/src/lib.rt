@@ -7,6 +7,8 @@ mod laws;
 mod output;
 mod program;
 mod status;
+#[cfg(test)]
+mod tests;
 mod writing;
 
 pub use laws::{good_is_unchanged, purified_is_good, twice_is_once};
