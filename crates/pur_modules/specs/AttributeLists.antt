@@ -1,5 +1,5 @@
 -- Which attributes an element has (XHTML 1.0, the attribute lists of the two DTDs).
-use Rattle.std.specs.Prelude.{Bool, true, List, [], ◌∷◌, ◌++◌, if◌then◌else◌}
+use Rattle.std.specs.Prelude.{List, [], ◌∷◌, ◌++◌, if◌then◌else◌}
 use Rattle.std.specs.List.{flat_map}
 use Rattle.pur_names.specs.declared.attributes.Attr.{Attr}
 use Rattle.pur_names.specs.declared.attributes.Attr.TheVariants as attr
@@ -21,29 +21,29 @@ give elements attrs transitional = record { elements = elements; attrs = attrs; 
 -- the rows of the table
 abbrev pub givings : List Giving
 givings =
-  give (A ∷ []) (attr.Href ∷ attr.Rel ∷ []) (attr.Target ∷ [])
-  ∷ give (Img ∷ []) (attr.Src ∷ attr.Alt ∷ attr.Longdesc ∷ attr.Width ∷ attr.Height ∷ [])
-      (attr.Align ∷ attr.Border ∷ attr.Hspace ∷ attr.Vspace ∷ [])
-  ∷ give (Blockquote ∷ Q ∷ Ins ∷ Del ∷ []) (attr.Cite ∷ []) []
-  ∷ give (Table ∷ [])
-      (attr.Summary ∷ attr.Width ∷ attr.Border ∷ attr.Frame ∷ attr.Rules ∷ attr.Cellspacing ∷ attr.Cellpadding ∷ [])
-      (attr.Align ∷ attr.Bgcolor ∷ [])
-  ∷ give (Tr ∷ Thead ∷ Tbody ∷ Tfoot ∷ Col ∷ Colgroup ∷ Td ∷ Th ∷ []) (attr.Align ∷ attr.Valign ∷ []) []
-  ∷ give (Col ∷ Colgroup ∷ []) (attr.Span ∷ attr.Width ∷ []) []
-  ∷ give (Td ∷ Th ∷ []) (attr.Abbr ∷ attr.Scope ∷ attr.Rowspan ∷ attr.Colspan ∷ [])
-      (attr.Nowrap ∷ attr.Width ∷ attr.Height ∷ attr.Bgcolor ∷ [])
-  ∷ give (Tr ∷ []) [] (attr.Bgcolor ∷ [])
-  ∷ give (Caption ∷ []) [] (attr.Align ∷ [])
-  ∷ give (P ∷ Div ∷ H1 ∷ H2 ∷ H3 ∷ H4 ∷ H5 ∷ H6 ∷ []) [] (attr.Align ∷ [])
-  ∷ give (Hr ∷ []) [] (attr.Align ∷ attr.Noshade ∷ attr.Size ∷ attr.Width ∷ [])
-  ∷ give (Br ∷ []) [] (attr.Clear ∷ [])
-  ∷ give (Ul ∷ []) [] (attr.ListType ∷ attr.Compact ∷ [])
-  ∷ give (Ol ∷ []) [] (attr.ListType ∷ attr.Start ∷ attr.Compact ∷ [])
-  ∷ give (Li ∷ []) [] (attr.ListType ∷ attr.Value ∷ [])
-  ∷ give (Dl ∷ Dir ∷ Menu ∷ []) [] (attr.Compact ∷ [])
-  ∷ give (Pre ∷ []) [] (attr.Width ∷ [])
-  ∷ give (Font ∷ []) [] (attr.Size ∷ attr.Color ∷ attr.Face ∷ [])
-  ∷ []
+    give (A ∷ []) (attr.Href ∷ attr.Rel ∷ []) (attr.Target ∷ [])
+    ∷ give (Img ∷ []) (attr.Src ∷ attr.Alt ∷ attr.Longdesc ∷ attr.Width ∷ attr.Height ∷ [])
+    (attr.Align ∷ attr.Border ∷ attr.Hspace ∷ attr.Vspace ∷ [])
+    ∷ give (Blockquote ∷ Q ∷ Ins ∷ Del ∷ []) (attr.Cite ∷ []) []
+    ∷ give (Table ∷ [])
+    (attr.Summary ∷ attr.Width ∷ attr.Border ∷ attr.Frame ∷ attr.Rules ∷ attr.Cellspacing ∷ attr.Cellpadding ∷ [])
+    (attr.Align ∷ attr.Bgcolor ∷ [])
+    ∷ give (Tr ∷ Thead ∷ Tbody ∷ Tfoot ∷ Col ∷ Colgroup ∷ Td ∷ Th ∷ []) (attr.Align ∷ attr.Valign ∷ []) []
+    ∷ give (Col ∷ Colgroup ∷ []) (attr.Span ∷ attr.Width ∷ []) []
+    ∷ give (Td ∷ Th ∷ []) (attr.Abbr ∷ attr.Scope ∷ attr.Rowspan ∷ attr.Colspan ∷ [])
+    (attr.Nowrap ∷ attr.Width ∷ attr.Height ∷ attr.Bgcolor ∷ [])
+    ∷ give (Tr ∷ []) [] (attr.Bgcolor ∷ [])
+    ∷ give (Caption ∷ []) [] (attr.Align ∷ [])
+    ∷ give (P ∷ Div ∷ H1 ∷ H2 ∷ H3 ∷ H4 ∷ H5 ∷ H6 ∷ []) [] (attr.Align ∷ [])
+    ∷ give (Hr ∷ []) [] (attr.Align ∷ attr.Noshade ∷ attr.Size ∷ attr.Width ∷ [])
+    ∷ give (Br ∷ []) [] (attr.Clear ∷ [])
+    ∷ give (Ul ∷ []) [] (attr.ListType ∷ attr.Compact ∷ [])
+    ∷ give (Ol ∷ []) [] (attr.ListType ∷ attr.Start ∷ attr.Compact ∷ [])
+    ∷ give (Li ∷ []) [] (attr.ListType ∷ attr.Value ∷ [])
+    ∷ give (Dl ∷ Dir ∷ Menu ∷ []) [] (attr.Compact ∷ [])
+    ∷ give (Pre ∷ []) [] (attr.Width ∷ [])
+    ∷ give (Font ∷ []) [] (attr.Size ∷ attr.Color ∷ attr.Face ∷ [])
+    ∷ []
 
 -- the attributes that nearly every element has (%attrs; without events); br has no language and no direction
 abbrev pub common : Element → List Attr
@@ -62,7 +62,7 @@ given_to doctype element row = if is_among row.elements element then given docty
 -- the attributes of an element; a doctype declares none on an element that it hasn't
 unfoldable pub attributes_of : Doctype → Element → List Attr
 attributes_of doctype element =
-  if is_among (elements_of doctype) element then common element ++ flat_map (given_to doctype element) givings else []
+    if is_among (elements_of doctype) element then common element ++ flat_map (given_to doctype element) givings else []
 
 -- the attributes that an element must have (#REQUIRED)
 abbrev pub required_of : Element → List Attr

@@ -43,7 +43,7 @@ one_step step = (step ∷ []) ∷ []
 -- a way of a table: a caption, columns of one kind, a head, a foot, and bodies of one kind
 abbrev pub table_way : Element → Element → List Step
 table_way column body =
-  optional Caption ∷ any_of (elems (column ∷ [])) ∷ optional Thead ∷ optional Tfoot ∷ some_of (elems (body ∷ [])) ∷ []
+    optional Caption ∷ any_of (elems (column ∷ [])) ∷ optional Thead ∷ optional Tfoot ∷ some_of (elems (body ∷ [])) ∷ []
 
 -- the expression of a content kind
 abbrev pub expression_of : Doctype → Content → List (List Step)
@@ -83,7 +83,7 @@ before_unless false element elements = element ∷ elements
 abbrev pub without_repeats : List Element → List Element → List Element
 without_repeats seen [] = []
 without_repeats seen (element ∷ elements) =
-  before_unless (is_among seen element) element (without_repeats (element ∷ seen) elements)
+    before_unless (is_among seen element) element (without_repeats (element ∷ seen) elements)
 
 -- the element letters of a kind's expression, each once
 unfoldable pub child_letters : Doctype → Content → List Element

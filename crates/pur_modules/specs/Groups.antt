@@ -1,7 +1,7 @@
 -- The groups of elements that content expressions are made of (XHTML 1.0, the parameter entities of the two DTDs).
-use Rattle.std.specs.Prelude.{Bool, List, [], ◌∷◌, ◌++◌, filter, not}
+use Rattle.std.specs.Prelude.{Bool, List, [], ◌∷◌, ◌++◌}
 use Rattle.std.specs.List.{list_any}
-use Rattle.pur_names.specs.Elements.{same_element, all_elements}
+use Rattle.pur_names.specs.Elements.{same_element}
 use Rattle.pur_names.specs.declared.elements.Element.{Element}
 use Rattle.pur_names.specs.declared.elements.Element.TheVariants.{A, Abbr, Acronym, Address, B, Bdo, Big, Blockquote, Br, Caption, Center, Cite, Code, Col, Colgroup, Dd, Del, Dfn, Dir, Div, Dl, Dt, Em, Font, H1, H2, H3, H4, H5, H6, Hr, I, Img, Ins, Kbd, Li, Menu, Ol, P, Pre, Q, S, Samp, Small, Span, Strike, Strong, Sub, Sup, Table, Tbody, Td, Tfoot, Th, Thead, Tr, Tt, U, Ul, Var}
 use Rattle.pur_modules.specs.declared.kinds.Doctype.{Doctype}
@@ -39,8 +39,8 @@ anchor = A ∷ []
 -- the blocks (%block;)
 abbrev pub block : Doctype → List Element
 block doctype =
-  P ∷ H1 ∷ H2 ∷ H3 ∷ H4 ∷ H5 ∷ H6 ∷ Div ∷ Ul ∷ Ol ∷ Dl ∷ Pre ∷ Hr ∷ Blockquote ∷ Address ∷ Table ∷ []
-  ++ in_transitional doctype (Center ∷ Dir ∷ Menu ∷ [])
+    P ∷ H1 ∷ H2 ∷ H3 ∷ H4 ∷ H5 ∷ H6 ∷ Div ∷ Ul ∷ Ol ∷ Dl ∷ Pre ∷ Hr ∷ Blockquote ∷ Address ∷ Table ∷ []
+    ++ in_transitional doctype (Center ∷ Dir ∷ Menu ∷ [])
 
 -- the parts of lists and tables
 abbrev pub parts : List Element

@@ -1,13 +1,13 @@
 -- Which element a content kind implies round a child that it doesn't allow (this filter's own rule, after HTML Purifier).
-use Rattle.std.specs.Prelude.{List, [], ◌∷◌, Bool, true, false, Option, Some, None, if◌then◌else◌, not, ◌&&◌}
+use Rattle.std.specs.Prelude.{[], ◌∷◌, Bool, true, false, Option, Some, None, if◌then◌else◌, not, ◌&&◌}
 use Rattle.pur_names.specs.declared.elements.Element.{Element}
 use Rattle.pur_names.specs.declared.elements.Element.TheVariants.{Dd, Li, P, Td, Th, Tr}
 use Rattle.pur_modules.specs.declared.kinds.Child.{Child}
 use Rattle.pur_modules.specs.declared.kinds.Child.TheVariants.{Text, Elem}
 use Rattle.pur_modules.specs.declared.kinds.Content.{Content}
-use Rattle.pur_modules.specs.declared.kinds.Content.TheVariants.{Inline, Flow, Block, AddressMix, Items, Pairs, TableParts, Rows, Cells, Cols, Nothing}
+use Rattle.pur_modules.specs.declared.kinds.Content.TheVariants.{Block, Items, Pairs, TableParts, Rows}
 use Rattle.pur_modules.specs.declared.kinds.Doctype.{Doctype}
-use Rattle.pur_modules.specs.declared.kinds.Doctype.TheVariants.{Strict, Transitional}
+use Rattle.pur_modules.specs.declared.kinds.Doctype.TheVariants.{Strict}
 use Rattle.pur_modules.specs.Groups.{is_among, inline, misc}
 use Rattle.pur_modules.specs.Expressions.{is_letter}
 use Rattle.pur_modules.specs.Contents.{content_held}
@@ -36,7 +36,7 @@ wrapper_for doctype content child = None
 abbrev pub if_it_holds : Doctype → Content → Child → Option Element → Option Element
 if_it_holds doctype content child None = None
 if_it_holds doctype content child (Some wrapper) =
-  if is_letter doctype (content_held doctype wrapper content) child then Some wrapper else None
+    if is_letter doctype (content_held doctype wrapper content) child then Some wrapper else None
 
 -- the element that a content kind implies round a child
 unfoldable pub wrapper_of : Doctype → Content → Child → Option Element

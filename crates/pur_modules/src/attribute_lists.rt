@@ -12,136 +12,320 @@ const BREAK: [Attr; 4] = [Attr::Id, Attr::Class, Attr::Style, Attr::Title];
 
 // What a Transitional line break has.
 const TRANSITIONAL_BREAK: [Attr; 5] = [
-    Attr::Id, Attr::Class, Attr::Style, Attr::Title, Attr::Clear,
+    Attr::Id,
+    Attr::Class,
+    Attr::Style,
+    Attr::Title,
+    Attr::Clear,
 ];
 
 // What nearly every element has.
 const COMMON: [Attr; 7] = [
-    Attr::Id, Attr::Class, Attr::Style, Attr::Title, Attr::Lang, Attr::XmlLang, Attr::Dir,
+    Attr::Id,
+    Attr::Class,
+    Attr::Style,
+    Attr::Title,
+    Attr::Lang,
+    Attr::XmlLang,
+    Attr::Dir,
 ];
 
 // What a Strict anchor has.
 const ANCHOR: [Attr; 9] = [
-    Attr::Id, Attr::Class, Attr::Style, Attr::Title, Attr::Lang, Attr::XmlLang, Attr::Dir,
-    Attr::Href, Attr::Rel,
+    Attr::Id,
+    Attr::Class,
+    Attr::Style,
+    Attr::Title,
+    Attr::Lang,
+    Attr::XmlLang,
+    Attr::Dir,
+    Attr::Href,
+    Attr::Rel,
 ];
 
 // What a Transitional anchor has.
 const TRANSITIONAL_ANCHOR: [Attr; 10] = [
-    Attr::Id, Attr::Class, Attr::Style, Attr::Title, Attr::Lang, Attr::XmlLang, Attr::Dir,
-    Attr::Href, Attr::Rel, Attr::Target,
+    Attr::Id,
+    Attr::Class,
+    Attr::Style,
+    Attr::Title,
+    Attr::Lang,
+    Attr::XmlLang,
+    Attr::Dir,
+    Attr::Href,
+    Attr::Rel,
+    Attr::Target,
 ];
 
 // What a Strict image has.
 const IMAGE: [Attr; 12] = [
-    Attr::Id, Attr::Class, Attr::Style, Attr::Title, Attr::Lang, Attr::XmlLang, Attr::Dir,
-    Attr::Src, Attr::Alt, Attr::Longdesc, Attr::Width, Attr::Height,
+    Attr::Id,
+    Attr::Class,
+    Attr::Style,
+    Attr::Title,
+    Attr::Lang,
+    Attr::XmlLang,
+    Attr::Dir,
+    Attr::Src,
+    Attr::Alt,
+    Attr::Longdesc,
+    Attr::Width,
+    Attr::Height,
 ];
 
 // What a Transitional image has.
 const TRANSITIONAL_IMAGE: [Attr; 16] = [
-    Attr::Id, Attr::Class, Attr::Style, Attr::Title, Attr::Lang, Attr::XmlLang, Attr::Dir,
-    Attr::Src, Attr::Alt, Attr::Longdesc, Attr::Width, Attr::Height, Attr::Align, Attr::Border,
-    Attr::Hspace, Attr::Vspace,
+    Attr::Id,
+    Attr::Class,
+    Attr::Style,
+    Attr::Title,
+    Attr::Lang,
+    Attr::XmlLang,
+    Attr::Dir,
+    Attr::Src,
+    Attr::Alt,
+    Attr::Longdesc,
+    Attr::Width,
+    Attr::Height,
+    Attr::Align,
+    Attr::Border,
+    Attr::Hspace,
+    Attr::Vspace,
 ];
 
 // What quotations and edits have.
 const CITING: [Attr; 8] = [
-    Attr::Id, Attr::Class, Attr::Style, Attr::Title, Attr::Lang, Attr::XmlLang, Attr::Dir,
+    Attr::Id,
+    Attr::Class,
+    Attr::Style,
+    Attr::Title,
+    Attr::Lang,
+    Attr::XmlLang,
+    Attr::Dir,
     Attr::Cite,
 ];
 
 // What a Strict table has.
 const TABLE: [Attr; 14] = [
-    Attr::Id, Attr::Class, Attr::Style, Attr::Title, Attr::Lang, Attr::XmlLang, Attr::Dir,
-    Attr::Summary, Attr::Width, Attr::Border, Attr::Frame, Attr::Rules, Attr::Cellspacing,
+    Attr::Id,
+    Attr::Class,
+    Attr::Style,
+    Attr::Title,
+    Attr::Lang,
+    Attr::XmlLang,
+    Attr::Dir,
+    Attr::Summary,
+    Attr::Width,
+    Attr::Border,
+    Attr::Frame,
+    Attr::Rules,
+    Attr::Cellspacing,
     Attr::Cellpadding,
 ];
 
 // What a Transitional table has.
 const TRANSITIONAL_TABLE: [Attr; 16] = [
-    Attr::Id, Attr::Class, Attr::Style, Attr::Title, Attr::Lang, Attr::XmlLang, Attr::Dir,
-    Attr::Summary, Attr::Width, Attr::Border, Attr::Frame, Attr::Rules, Attr::Cellspacing,
-    Attr::Cellpadding, Attr::Align, Attr::Bgcolor,
+    Attr::Id,
+    Attr::Class,
+    Attr::Style,
+    Attr::Title,
+    Attr::Lang,
+    Attr::XmlLang,
+    Attr::Dir,
+    Attr::Summary,
+    Attr::Width,
+    Attr::Border,
+    Attr::Frame,
+    Attr::Rules,
+    Attr::Cellspacing,
+    Attr::Cellpadding,
+    Attr::Align,
+    Attr::Bgcolor,
 ];
 
 // What row groups have, and a Strict row.
 const ROWS: [Attr; 9] = [
-    Attr::Id, Attr::Class, Attr::Style, Attr::Title, Attr::Lang, Attr::XmlLang, Attr::Dir,
-    Attr::Align, Attr::Valign,
+    Attr::Id,
+    Attr::Class,
+    Attr::Style,
+    Attr::Title,
+    Attr::Lang,
+    Attr::XmlLang,
+    Attr::Dir,
+    Attr::Align,
+    Attr::Valign,
 ];
 
 // What a Transitional row has.
 const TRANSITIONAL_ROW: [Attr; 10] = [
-    Attr::Id, Attr::Class, Attr::Style, Attr::Title, Attr::Lang, Attr::XmlLang, Attr::Dir,
-    Attr::Align, Attr::Valign, Attr::Bgcolor,
+    Attr::Id,
+    Attr::Class,
+    Attr::Style,
+    Attr::Title,
+    Attr::Lang,
+    Attr::XmlLang,
+    Attr::Dir,
+    Attr::Align,
+    Attr::Valign,
+    Attr::Bgcolor,
 ];
 
 // What columns and their groups have.
 const COLUMNS: [Attr; 11] = [
-    Attr::Id, Attr::Class, Attr::Style, Attr::Title, Attr::Lang, Attr::XmlLang, Attr::Dir,
-    Attr::Align, Attr::Valign, Attr::Span, Attr::Width,
+    Attr::Id,
+    Attr::Class,
+    Attr::Style,
+    Attr::Title,
+    Attr::Lang,
+    Attr::XmlLang,
+    Attr::Dir,
+    Attr::Align,
+    Attr::Valign,
+    Attr::Span,
+    Attr::Width,
 ];
 
 // What a Strict cell has.
 const CELL: [Attr; 13] = [
-    Attr::Id, Attr::Class, Attr::Style, Attr::Title, Attr::Lang, Attr::XmlLang, Attr::Dir,
-    Attr::Align, Attr::Valign, Attr::Abbr, Attr::Scope, Attr::Rowspan, Attr::Colspan,
+    Attr::Id,
+    Attr::Class,
+    Attr::Style,
+    Attr::Title,
+    Attr::Lang,
+    Attr::XmlLang,
+    Attr::Dir,
+    Attr::Align,
+    Attr::Valign,
+    Attr::Abbr,
+    Attr::Scope,
+    Attr::Rowspan,
+    Attr::Colspan,
 ];
 
 // What a Transitional cell has.
 const TRANSITIONAL_CELL: [Attr; 17] = [
-    Attr::Id, Attr::Class, Attr::Style, Attr::Title, Attr::Lang, Attr::XmlLang, Attr::Dir,
-    Attr::Align, Attr::Valign, Attr::Abbr, Attr::Scope, Attr::Rowspan, Attr::Colspan, Attr::Nowrap,
-    Attr::Width, Attr::Height, Attr::Bgcolor,
+    Attr::Id,
+    Attr::Class,
+    Attr::Style,
+    Attr::Title,
+    Attr::Lang,
+    Attr::XmlLang,
+    Attr::Dir,
+    Attr::Align,
+    Attr::Valign,
+    Attr::Abbr,
+    Attr::Scope,
+    Attr::Rowspan,
+    Attr::Colspan,
+    Attr::Nowrap,
+    Attr::Width,
+    Attr::Height,
+    Attr::Bgcolor,
 ];
 
 // What Transitional paragraphs, headings, divisions and captions have.
 const ALIGNED: [Attr; 8] = [
-    Attr::Id, Attr::Class, Attr::Style, Attr::Title, Attr::Lang, Attr::XmlLang, Attr::Dir,
+    Attr::Id,
+    Attr::Class,
+    Attr::Style,
+    Attr::Title,
+    Attr::Lang,
+    Attr::XmlLang,
+    Attr::Dir,
     Attr::Align,
 ];
 
 // What a Transitional rule has.
 const TRANSITIONAL_RULE: [Attr; 11] = [
-    Attr::Id, Attr::Class, Attr::Style, Attr::Title, Attr::Lang, Attr::XmlLang, Attr::Dir,
-    Attr::Align, Attr::Noshade, Attr::Size, Attr::Width,
+    Attr::Id,
+    Attr::Class,
+    Attr::Style,
+    Attr::Title,
+    Attr::Lang,
+    Attr::XmlLang,
+    Attr::Dir,
+    Attr::Align,
+    Attr::Noshade,
+    Attr::Size,
+    Attr::Width,
 ];
 
 // What a Transitional bulleted list has.
 const TRANSITIONAL_BULLETS: [Attr; 9] = [
-    Attr::Id, Attr::Class, Attr::Style, Attr::Title, Attr::Lang, Attr::XmlLang, Attr::Dir,
-    Attr::ListType, Attr::Compact,
+    Attr::Id,
+    Attr::Class,
+    Attr::Style,
+    Attr::Title,
+    Attr::Lang,
+    Attr::XmlLang,
+    Attr::Dir,
+    Attr::ListType,
+    Attr::Compact,
 ];
 
 // What a Transitional numbered list has.
 const TRANSITIONAL_NUMBERS: [Attr; 10] = [
-    Attr::Id, Attr::Class, Attr::Style, Attr::Title, Attr::Lang, Attr::XmlLang, Attr::Dir,
-    Attr::ListType, Attr::Start, Attr::Compact,
+    Attr::Id,
+    Attr::Class,
+    Attr::Style,
+    Attr::Title,
+    Attr::Lang,
+    Attr::XmlLang,
+    Attr::Dir,
+    Attr::ListType,
+    Attr::Start,
+    Attr::Compact,
 ];
 
 // What a Transitional list item has.
 const TRANSITIONAL_ITEM: [Attr; 9] = [
-    Attr::Id, Attr::Class, Attr::Style, Attr::Title, Attr::Lang, Attr::XmlLang, Attr::Dir,
-    Attr::ListType, Attr::Value,
+    Attr::Id,
+    Attr::Class,
+    Attr::Style,
+    Attr::Title,
+    Attr::Lang,
+    Attr::XmlLang,
+    Attr::Dir,
+    Attr::ListType,
+    Attr::Value,
 ];
 
 // What Transitional definition lists, directories and menus have.
 const COMPACT: [Attr; 8] = [
-    Attr::Id, Attr::Class, Attr::Style, Attr::Title, Attr::Lang, Attr::XmlLang, Attr::Dir,
+    Attr::Id,
+    Attr::Class,
+    Attr::Style,
+    Attr::Title,
+    Attr::Lang,
+    Attr::XmlLang,
+    Attr::Dir,
     Attr::Compact,
 ];
 
 // What Transitional preformatted text has.
 const TRANSITIONAL_PREFORMATTED: [Attr; 8] = [
-    Attr::Id, Attr::Class, Attr::Style, Attr::Title, Attr::Lang, Attr::XmlLang, Attr::Dir,
+    Attr::Id,
+    Attr::Class,
+    Attr::Style,
+    Attr::Title,
+    Attr::Lang,
+    Attr::XmlLang,
+    Attr::Dir,
     Attr::Width,
 ];
 
 // What a font change has.
 const FONT: [Attr; 10] = [
-    Attr::Id, Attr::Class, Attr::Style, Attr::Title, Attr::Lang, Attr::XmlLang, Attr::Dir,
-    Attr::Size, Attr::Color, Attr::Face,
+    Attr::Id,
+    Attr::Class,
+    Attr::Style,
+    Attr::Title,
+    Attr::Lang,
+    Attr::XmlLang,
+    Attr::Dir,
+    Attr::Size,
+    Attr::Color,
+    Attr::Face,
 ];
 
 /// The attributes that a doctype declares on an element, each once: those of all elements first.
@@ -184,8 +368,13 @@ fn strict(element: Element) -> &'static [Attr]
         Element::Thead | Element::Tfoot | Element::Tbody | Element::Tr => &ROWS,
         Element::Colgroup | Element::Col => &COLUMNS,
         Element::Th | Element::Td => &CELL,
-        Element::U | Element::S | Element::Strike | Element::Font | Element::Center
-        | Element::Dir | Element::Menu => &[],
+        Element::U
+        | Element::S
+        | Element::Strike
+        | Element::Font
+        | Element::Center
+        | Element::Dir
+        | Element::Menu => &[],
         _ => &COMMON,
     }
 }
@@ -204,8 +393,15 @@ fn transitional(element: Element) -> &'static [Attr]
         Element::Tr => &TRANSITIONAL_ROW,
         Element::Colgroup | Element::Col => &COLUMNS,
         Element::Th | Element::Td => &TRANSITIONAL_CELL,
-        Element::P | Element::H1 | Element::H2 | Element::H3 | Element::H4 | Element::H5
-        | Element::H6 | Element::Div | Element::Caption => &ALIGNED,
+        Element::P
+        | Element::H1
+        | Element::H2
+        | Element::H3
+        | Element::H4
+        | Element::H5
+        | Element::H6
+        | Element::Div
+        | Element::Caption => &ALIGNED,
         Element::Hr => &TRANSITIONAL_RULE,
         Element::Ul => &TRANSITIONAL_BULLETS,
         Element::Ol => &TRANSITIONAL_NUMBERS,

@@ -15,7 +15,12 @@ pub fn excludes(outer: Element, inner: Element) -> bool
         Element::A => matches!(inner, Element::A),
         Element::Pre => matches!(
             inner,
-            Element::Img | Element::Big | Element::Small | Element::Sub | Element::Sup | Element::Font
+            Element::Img
+                | Element::Big
+                | Element::Small
+                | Element::Sub
+                | Element::Sup
+                | Element::Font
         ),
         _ => false,
     }

@@ -11,12 +11,35 @@ pub(crate) fn is_inline(doctype: Doctype, element: Element) -> bool
     ensures { result ≡ is_among (inline doctype) element }
 {
     match element {
-        Element::U | Element::S | Element::Strike | Element::Font => matches!(doctype, Doctype::Transitional),
-        Element::Tt | Element::I | Element::B | Element::Big | Element::Small | Element::Em
-        | Element::Strong | Element::Dfn | Element::Code | Element::Q | Element::Samp
-        | Element::Kbd | Element::Var | Element::Cite | Element::Abbr | Element::Acronym
-        | Element::Sub | Element::Sup | Element::Br | Element::Span | Element::Bdo
-        | Element::Img | Element::Ins | Element::Del | Element::A => true,
+        Element::U | Element::S | Element::Strike | Element::Font => matches!(
+            doctype,
+            Doctype::Transitional
+        ),
+        Element::Tt
+        | Element::I
+        | Element::B
+        | Element::Big
+        | Element::Small
+        | Element::Em
+        | Element::Strong
+        | Element::Dfn
+        | Element::Code
+        | Element::Q
+        | Element::Samp
+        | Element::Kbd
+        | Element::Var
+        | Element::Cite
+        | Element::Abbr
+        | Element::Acronym
+        | Element::Sub
+        | Element::Sup
+        | Element::Br
+        | Element::Span
+        | Element::Bdo
+        | Element::Img
+        | Element::Ins
+        | Element::Del
+        | Element::A => true,
         _ => false,
     }
 }
@@ -27,9 +50,22 @@ pub(crate) fn is_block(doctype: Doctype, element: Element) -> bool
 {
     match element {
         Element::Center | Element::Dir | Element::Menu => matches!(doctype, Doctype::Transitional),
-        Element::P | Element::H1 | Element::H2 | Element::H3 | Element::H4 | Element::H5
-        | Element::H6 | Element::Div | Element::Ul | Element::Ol | Element::Dl | Element::Pre
-        | Element::Hr | Element::Blockquote | Element::Address | Element::Table => true,
+        Element::P
+        | Element::H1
+        | Element::H2
+        | Element::H3
+        | Element::H4
+        | Element::H5
+        | Element::H6
+        | Element::Div
+        | Element::Ul
+        | Element::Ol
+        | Element::Dl
+        | Element::Pre
+        | Element::Hr
+        | Element::Blockquote
+        | Element::Address
+        | Element::Table => true,
         _ => false,
     }
 }

@@ -42,7 +42,11 @@ pub fn implied(doctype: Doctype, content: Content, child: Child) -> Option<Eleme
 fn holding(doctype: Doctype, content: Content, child: Child, wrapper: Element) -> Option<Element>
     ensures { result ≡ (if is_letter doctype content child then Some wrapper else None) }
 {
-    if allows(doctype, content, child) { Some(wrapper) } else { None }
+    if allows(doctype, content, child) {
+        Some(wrapper)
+    } else {
+        None
+    }
 }
 
 // The paragraph that a Strict `blockquote` implies.
