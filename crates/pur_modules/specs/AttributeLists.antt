@@ -1,6 +1,7 @@
 -- Which attributes an element has (XHTML 1.0, the attribute lists of the two DTDs).
-use Rattle.std.specs.Prelude.{List, [], ◌∷◌, ◌++◌, if◌then◌else◌}
-use Rattle.std.specs.List.{flat_map}
+use Rattle.std.specs.Prelude.{Bool, true, List, [], ◌∷◌, ◌++◌, if◌then◌else◌, not, ◌&&◌}
+use Rattle.std.specs.List.{flat_map, list_any}
+use Rattle.pur_names.specs.Attributes.{same_attr}
 use Rattle.pur_names.specs.declared.attributes.Attr.{Attr}
 use Rattle.pur_names.specs.declared.attributes.Attr.TheVariants as attr
 use Rattle.pur_names.specs.declared.elements.Element.{Element}
@@ -69,3 +70,8 @@ abbrev pub required_of : Element → List Attr
 required_of Img = attr.Src ∷ attr.Alt ∷ []
 required_of Bdo = attr.Dir ∷ []
 required_of element = []
+
+-- whether no attribute stands twice in the list
+abbrev pub is_without_repeats : List Attr → Bool
+is_without_repeats [] = true
+is_without_repeats (first ∷ more) = not (list_any (same_attr first) more) && is_without_repeats more

@@ -1,7 +1,7 @@
 //! The attributes of each element.
 
-ghost use Rattle.std.specs.Prelude.{◌≡◌};
-ghost use Rattle.pur_modules.specs.AttributeLists.{attributes_of, required_of};
+ghost use Rattle.std.specs.Prelude.{◌≡◌, IsTrue};
+ghost use Rattle.pur_modules.specs.AttributeLists.{attributes_of, required_of, is_without_repeats};
 ghost use Rattle.pur_modules.specs.declared.kinds.Doctype.TheVariants.{Strict, Transitional};
 
 use crate::kinds::Doctype;
@@ -334,7 +334,8 @@ const FONT: [Attr; 10] = [
 ///
 /// Source: XHTML 1.0, the attribute lists of the two DTDs, without events and the attributes that this filter leaves out.
 pub fn attributes(doctype: Doctype, element: Element) -> &'static [Attr]
-    ensures { result.now ≡ attributes_of doctype element }
+    ensures value { result.now ≡ attributes_of doctype element }
+    ensures once { IsTrue (is_without_repeats result.now) }
 {
     match doctype {
         Doctype::Strict => strict(element),
@@ -355,9 +356,11 @@ pub fn required(element: Element) -> &'static [Attr]
     }
 }
 
+// What Strict declares on an element.
 #[tactic(auto, unfolding(crate::specs::AttributeLists::attributes_of))]
 fn strict(element: Element) -> &'static [Attr]
-    ensures { result.now ≡ attributes_of Strict element }
+    ensures value { result.now ≡ attributes_of Strict element }
+    ensures once { IsTrue (is_without_repeats result.now) }
 {
     match element {
         Element::Br => &BREAK,
@@ -379,9 +382,11 @@ fn strict(element: Element) -> &'static [Attr]
     }
 }
 
+// What Transitional declares on an element.
 #[tactic(auto, unfolding(crate::specs::AttributeLists::attributes_of))]
 fn transitional(element: Element) -> &'static [Attr]
-    ensures { result.now ≡ attributes_of Transitional element }
+    ensures value { result.now ≡ attributes_of Transitional element }
+    ensures once { IsTrue (is_without_repeats result.now) }
 {
     match element {
         Element::Br => &TRANSITIONAL_BREAK,

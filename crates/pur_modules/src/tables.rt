@@ -342,6 +342,7 @@ pub fn allows(doctype: Doctype, content: Content, child: Child) -> bool
     }
 }
 
+// Whether the element may stand in a content.
 #[tactic(auto, unfolding(crate::specs::Expressions::child_letters))]
 fn allows_element(doctype: Doctype, content: Content, element: Element) -> bool
     ensures { result ≡ is_among (child_letters doctype content) element }
