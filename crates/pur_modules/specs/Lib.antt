@@ -1,0 +1,5 @@
+pub mod Groups
+pub mod Expressions
+pub mod Contents
+pub mod Wrappers
+pub mod AttributeLists
