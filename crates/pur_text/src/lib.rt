@@ -1,0 +1,7 @@
+//! Characters and texts: which characters a filtered text may have, how the bytes of an input become such a text, and
+//! which texts are canonical hosts.
+#![tactic(auto)]
+
+mod characters;
+
+pub use characters::{is_allowed, is_space, lower_ascii};
