@@ -32,3 +32,33 @@ pub fn lower_ascii(alloc: Global, text: &str) -> Result<String, AllocError>
 {
     text.to_ascii_lowercase(alloc)
 }
+
+#[cfg(test)]
+mod tests {
+    use super::*;
+    use std::test::Fail;
+
+    #[test]
+    fn tells_allowed_characters(rt: HostRuntime) {
+        for c in ['\t', '\n', ' ', '~', '\u{A0}', '\u{D7FF}', '\u{E000}', '\u{FFFD}', '\u{10000}', '\u{1FFFE}', '\u{10FFFF}'] {
+            assert!(rt; is_allowed(c), "{c:?}");
+        }
+        for c in ['\0', '\u{8}', '\u{B}', '\u{C}', '\r', '\u{1F}', '\u{7F}', '\u{85}', '\u{9F}', '\u{FFFE}', '\u{FFFF}'] {
+            assert!(rt; !is_allowed(c), "{c:?}");
+        }
+    }
+
+    #[test]
+    fn tells_white_space(rt: HostRuntime) {
+        for (c, want) in [(' ', true), ('\t', true), ('\n', true), ('\r', false), ('\u{C}', false), ('\u{A0}', false)] {
+            assert_eq!(rt; is_space(c), want, "{c:?}");
+        }
+    }
+
+    #[test]
+    fn lowers_ascii_letters_alone(rt: HostRuntime) -> Result<(), Fail> {
+        let lowered = lower_ascii(rt.alloc(), "@AMZ[`az{ \u{C4}\u{212A}")?;
+        assert_eq!(rt; lowered.as_str(), "@amz[`az{ \u{C4}\u{212A}");
+        Ok(())
+    }
+}

@@ -3,5 +3,11 @@
 #![tactic(auto)]
 
 mod characters;
+mod cleaning;
+mod addresses;
+mod hosts;
+mod runs;
 
 pub use characters::{is_allowed, is_space, lower_ascii};
+pub use cleaning::clean;
+pub use hosts::is_host;
