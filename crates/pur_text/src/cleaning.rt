@@ -1,8 +1,8 @@
 //! From the bytes of an input to the text that the filter reads.
-ghost use Rattle.std.specs.Prelude.{◌≡◌, ◌++◌, ◌<◌, length, IfOk, filter, string_bytes};
-ghost use Rattle.std.specs.Str.{chars};
+ghost use Rattle.std.specs.Prelude.{◌≡◌, [], ◌∷◌, ◌++◌, ◌<◌, length, IfOk, OnOk, filter, string_bytes};
+ghost use Rattle.std.specs.Str.{chars, IsUtf8};
 ghost use Rattle.pur_text.specs.Characters.{is_allowed};
-ghost use Rattle.pur_text.specs.Cleaning.{chars_of, with_line_feeds, cleaned};
+ghost use Rattle.pur_text.specs.Cleaning.{character_list, line_feed_for, chars_of, with_line_feeds, cleaned};
 
 use crate::characters::is_allowed;
 use crate::runs::run_end;
@@ -56,25 +56,46 @@ fn clean_text(alloc: Global, text: &str) -> Result<String, AllocError>
 /// Writes what stands for the first character of the text, and gives the text behind it.
 fn push_first<'a>(clean: &mut String, text: &'a str) -> Result<&'a str, AllocError>
     requires { 0 < length text.now }
+    ensures text { IfOk result (λ behind. IsUtf8 behind.now) }
     ensures shorter { IfOk result (λ behind. length behind.now < length text.now) }
     ensures step { IfOk result (λ behind. chars (string_bytes clean.new) ++ filter is_allowed (with_line_feeds (chars behind.now))
         ≡ chars (string_bytes clean.old) ++ filter is_allowed (with_line_feeds (chars text.now))) }
 {
     let mut behind = text.chars();
-    match behind.next() {
-        Some('\r') => {
-            if !behind.as_str().starts_with('\n') {
-                clean.push('\n')?;
-            }
-        }
-        Some(c) => {
-            if is_allowed(c) {
-                clean.push(c)?;
-            }
-        }
-        None => {}
-    }
+    let Some(first) = behind.next() else {
+        return Ok(text);
+    };
+    push_kept(clean, replacement(first, behind.as_str()))?;
     Ok(behind.as_str())
+}
+
+/// Writes the character, if there is one.
+fn push_kept(clean: &mut String, kept: Option<char>) -> Result<(), AllocError>
+    ensures { OnOk result (chars (string_bytes clean.new) ≡ chars (string_bytes clean.old) ++ character_list kept) }
+{
+    if let Some(c) = kept {
+        push_character(clean, c)?;
+    }
+    Ok(())
+}
+
+fn push_character(clean: &mut String, c: char) -> Result<(), AllocError>
+    ensures { OnOk result (chars (string_bytes clean.new) ≡ chars (string_bytes clean.old) ++ c ∷ []) }
+{
+    clean.push(c)?;
+    Ok(())
+}
+
+/// What stands for the character where this text is behind it, if anything does.
+fn replacement(c: char, behind: &str) -> Option<char>
+    ensures { character_list result ≡ filter is_allowed (line_feed_for c (chars behind.now)) }
+{
+    match c {
+        '\r' if behind.starts_with('\n') => None,
+        '\r' => Some('\n'),
+        c if is_allowed(c) => Some(c),
+        _ => None,
+    }
 }
 
 #[cfg(test)]
