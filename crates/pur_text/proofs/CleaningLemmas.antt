@@ -135,9 +135,9 @@ first_encoded (c ∷ cs) =
     (λ (low : c < 128). sym (ap (λ n. n == 0xA) (byte_from_char bytes rest c refl low)))
     (λ (high : 128 ≤ c).
     let wide : 128 ≤ first = ⊎_elim
-        (λ (narrow : first < 128). let same : c ≡ first = char_from_byte bytes rest c refl narrow some in absurd (omega arith))
-        (λ (w : 128 ≤ first). w)
-        (cases_lt first 128) in
+    (λ (narrow : first < 128). let same : c ≡ first = char_from_byte bytes rest c refl narrow some in absurd (omega arith))
+    (λ (w : 128 ≤ first). w)
+    (cases_lt first 128) in
     grind (arith, nat_tests))
     (cases_lt c 128)
 
@@ -247,3 +247,55 @@ unfolding with_line_feeds
 all_copied clean run more whole is_clean is_run more_is allowed e =
     let last = run_copied clean run [] more run whole is_clean is_run more_is (sym (append-nil run)) allowed e in
     sym (append-nil (chars more)) ∙ ap (λ cs. chars more ++ filter is_allowed (with_line_feeds cs)) (sym chars-nil) ∙ last
+
+-- ---- laws of cleaning
+
+-- what passes a filter passes its test
+all_kept : (p : ℕ → Bool) (xs : List ℕ) → list_all p (filter p xs) ≡ true
+all_kept p [] = refl
+all_kept p (x ∷ xs) = ⊎_elim
+    (λ (yes : p x ≡ true).
+    let e : filter p (x ∷ xs) ≡ x ∷ filter p xs = cond-true _ _ _ yes in
+    subst (λ l. list_all p l ≡ true) (sym e) (rw yes (all_kept p xs)))
+    (λ (no : p x ≡ false).
+    let e : filter p (x ∷ xs) ≡ filter p xs = cond-false _ _ _ no in
+    subst (λ l. list_all p l ≡ true) (sym e) (all_kept p xs))
+    (cases_Bool (p x))
+
+-- what bytes are cleaned to has only allowed characters
+pub cleaned_allowed : (bytes : List ℕ) → list_all is_allowed (cleaned bytes) ≡ true
+cleaned_allowed bytes = all_kept is_allowed (with_line_feeds (chars_of bytes))
+
+-- an allowed character is a character
+pub allowed_scalar : (c : ℕ) → is_allowed c ≡ true → scalar c ≡ true
+allowed_scalar c is = grind (arith, nat_tests)
+
+pub allowed_scalars : (text : List ℕ) → list_all is_allowed text ≡ true → scalars text ≡ true
+allowed_scalars [] all = refl
+allowed_scalars (c ∷ text) all =
+    let both = and_parts _ _ all in
+    let first : scalar c ≡ true = allowed_scalar c both.0 in
+    rw first (allowed_scalars text both.1)
+
+-- allowed characters alone stay
+pub tidied_allowed : (text : List ℕ) → list_all is_allowed text ≡ true → filter is_allowed (with_line_feeds text) ≡ text
+unfolding with_line_feeds
+tidied_allowed text all =
+    ap (λ t. filter is_allowed (with_line_feeds t)) (sym (append-nil text)) ∙ tidied_run text [] all ∙ append-nil text
+
+-- a text of allowed characters, as bytes and as characters
+pub cleaned_text : (bytes : List ℕ) → IsUtf8 bytes → list_all is_allowed (chars bytes) ≡ true → cleaned bytes ≡ chars bytes
+cleaned_text bytes text all =
+    ap (λ t. filter is_allowed (with_line_feeds t)) (chars_of-IsUtf8 bytes text) ∙ tidied_allowed (chars bytes) all
+
+pub cleaned_encoded : (text : List ℕ) → list_all is_allowed text ≡ true → cleaned (encode_utf8_all text) ≡ text
+unfolding chars_behind
+cleaned_encoded text all =
+    let bytes = encode_utf8_all text in
+    let read : chars_of bytes ≡ text =
+    ap chars_of (sym (append-nil bytes)) ∙ chars_of-front text [] (allowed_scalars text all) ∙ append-nil text in
+    ap (λ t. filter is_allowed (with_line_feeds t)) read ∙ tidied_allowed text all
+
+-- cleaning twice is cleaning once
+pub cleaned_twice : (bytes : List ℕ) → cleaned (encode_utf8_all (cleaned bytes)) ≡ cleaned bytes
+cleaned_twice bytes = cleaned_encoded (cleaned bytes) (cleaned_allowed bytes)

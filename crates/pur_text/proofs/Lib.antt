@@ -1,2 +1,3 @@
 pub mod CleaningLemmas
+pub mod HostLemmas
 pub mod RunLemmas

@@ -20,8 +20,8 @@ is_label_byte b = is_letter_or_digit b || b == 0x2D || b == 0x5F
 -- a label has such bytes alone, and begins and ends with a letter or digit; so it isn't empty
 abbrev pub is_label : List ℕ → Bool
 is_label label =
-    list_all is_label_byte label && is_letter_or_digit (slice_index label 0)
-        && is_letter_or_digit (slice_index label (length label - 1))
+    is_letter_or_digit (slice_index label 0) && is_letter_or_digit (slice_index label (length label - 1))
+    && list_all is_label_byte label
 
 -- the pieces between the dots, and between the colons
 abbrev pub between_dots : List ℕ → List (List ℕ)
@@ -38,7 +38,7 @@ is_host_name text = list_all is_label (between_dots text)
 abbrev pub is_octet : List ℕ → Bool
 is_octet piece =
     list_all is_digit piece && is_between 1 3 (length piece) && nat_le (digits_value 10 piece) 255
-        && (length piece == 1 || not (slice_index piece 0 == 0x30))
+    && (length piece == 1 || not (slice_index piece 0 == 0x30))
 
 -- four such numbers joined by dots (IPv4address)
 abbrev pub is_ip4_address : List ℕ → Bool
@@ -50,7 +50,7 @@ is_hex_digit b = is_digit b || is_between 0x61 0x66 b
 
 -- one to four hexadecimal digits (h16)
 abbrev pub is_group : List ℕ → Bool
-is_group piece = list_all is_hex_digit piece && is_between 1 4 (length piece)
+is_group piece = is_between 1 4 (length piece) && list_all is_hex_digit piece
 
 -- the groups that the pieces stand for: each piece is a group, but the last may be an IPv4 address, which stands for two
 unfoldable pub group_count : List (List ℕ) → Option ℕ
@@ -74,7 +74,7 @@ is_whole_ip6_address text = option_map_or (λ groups. groups == 8) (group_count 
 abbrev pub is_gapped_ip6_address : List ℕ → List ℕ → Bool
 is_gapped_ip6_address before behind =
     list_all is_group (side_pieces before)
-        && option_map_or (λ groups. nat_le (length (side_pieces before) + groups) 7) (group_count (side_pieces behind)) false
+    && option_map_or (λ groups. nat_le (length (side_pieces before) + groups) 7) (group_count (side_pieces behind)) false
 
 -- IPv6address with lower-case digits: eight groups joined by colons, or at most seven with one `::` in place of those
 -- that lack
@@ -87,7 +87,7 @@ is_ip6_address text =
 abbrev pub is_ip6_literal : List ℕ → Bool
 is_ip6_literal text =
     slice_index text 0 == 0x5B && slice_index text (length text - 1) == 0x5D
-        && is_ip6_address (take (length text - 2) (drop 1 text))
+    && is_ip6_address (take (length text - 2) (drop 1 text))
 
 -- a canonical host: at most 255 bytes, which are a name or an IPv6 literal
 abbrev pub is_host : List ℕ → Bool

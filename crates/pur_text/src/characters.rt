@@ -40,17 +40,39 @@ mod tests {
 
     #[test]
     fn tells_allowed_characters(rt: HostRuntime) {
-        for c in ['\t', '\n', ' ', '~', '\u{A0}', '\u{D7FF}', '\u{E000}', '\u{FFFD}', '\u{10000}', '\u{1FFFE}', '\u{10FFFF}'] {
+        for c in [
+            '\t',
+            '\n',
+            ' ',
+            '~',
+            '\u{A0}',
+            '\u{D7FF}',
+            '\u{E000}',
+            '\u{FFFD}',
+            '\u{10000}',
+            '\u{1FFFE}',
+            '\u{10FFFF}',
+        ] {
             assert!(rt; is_allowed(c), "{c:?}");
         }
-        for c in ['\0', '\u{8}', '\u{B}', '\u{C}', '\r', '\u{1F}', '\u{7F}', '\u{85}', '\u{9F}', '\u{FFFE}', '\u{FFFF}'] {
+        for c in [
+            '\0', '\u{8}', '\u{B}', '\u{C}', '\r', '\u{1F}', '\u{7F}', '\u{85}', '\u{9F}',
+            '\u{FFFE}', '\u{FFFF}',
+        ] {
             assert!(rt; !is_allowed(c), "{c:?}");
         }
     }
 
     #[test]
     fn tells_white_space(rt: HostRuntime) {
-        for (c, want) in [(' ', true), ('\t', true), ('\n', true), ('\r', false), ('\u{C}', false), ('\u{A0}', false)] {
+        for (c, want) in [
+            (' ', true),
+            ('\t', true),
+            ('\n', true),
+            ('\r', false),
+            ('\u{C}', false),
+            ('\u{A0}', false),
+        ] {
             assert_eq!(rt; is_space(c), want, "{c:?}");
         }
     }

@@ -107,20 +107,56 @@ mod tests {
     fn cleans_bytes(rt: HostRuntime) -> Result<(), Fail> {
         let cases: [(&[u8], &str, &str); 15] = [
             (b"", "", "nothing"),
-            (b"plain text\n\tgoes on", "plain text\n\tgoes on", "allowed characters stay"),
-            (b"\x41\xC3\x28\x00\x42", "A(B", "a byte without its second, and a NUL"),
+            (
+                b"plain text\n\tgoes on",
+                "plain text\n\tgoes on",
+                "allowed characters stay",
+            ),
+            (
+                b"\x41\xC3\x28\x00\x42",
+                "A(B",
+                "a byte without its second, and a NUL",
+            ),
             (b"a\r\nb", "a\nb", "CR LF is one line end"),
             (b"a\rb\r", "a\nb\n", "a CR alone is a line end"),
             (b"a\r\r\nb", "a\n\nb", "CR, then CR LF"),
-            (b"a\r\xFF\nb", "a\nb", "CR, a dropped byte, LF are one line end"),
-            (b"a\r\x00\nb", "a\n\nb", "CR, a dropped character, LF are two"),
-            (b"\xC2\xA9\xC2\x85\xC2\xA0", "\u{A9}\u{A0}", "U+0085 is dropped, its neighbours stay"),
+            (
+                b"a\r\xFF\nb",
+                "a\nb",
+                "CR, a dropped byte, LF are one line end",
+            ),
+            (
+                b"a\r\x00\nb",
+                "a\n\nb",
+                "CR, a dropped character, LF are two",
+            ),
+            (
+                b"\xC2\xA9\xC2\x85\xC2\xA0",
+                "\u{A9}\u{A0}",
+                "U+0085 is dropped, its neighbours stay",
+            ),
             (b"\x7F~\x1F", "~", "U+007F and U+001F are dropped"),
-            (b"\xEF\xBF\xBD\xEF\xBF\xBE\xEF\xBF\xBF", "\u{FFFD}", "U+FFFE and U+FFFF are dropped"),
-            (b"\xED\xA0\x80x\xC0\x80y", "xy", "a surrogate and an overlong NUL are no text"),
-            (b"\xF0\x9F\x98\x80\xF4\x8F\xBF\xBF", "\u{1F600}\u{10FFFF}", "the planes above stay"),
+            (
+                b"\xEF\xBF\xBD\xEF\xBF\xBE\xEF\xBF\xBF",
+                "\u{FFFD}",
+                "U+FFFE and U+FFFF are dropped",
+            ),
+            (
+                b"\xED\xA0\x80x\xC0\x80y",
+                "xy",
+                "a surrogate and an overlong NUL are no text",
+            ),
+            (
+                b"\xF0\x9F\x98\x80\xF4\x8F\xBF\xBF",
+                "\u{1F600}\u{10FFFF}",
+                "the planes above stay",
+            ),
             (b"\xE2\x82x\xF0\x9F\x98", "x", "sequences that are cut off"),
-            (b"\xE2\x82\xE2\x82\xAC", "\u{20AC}", "a cut sequence before a whole one"),
+            (
+                b"\xE2\x82\xE2\x82\xAC",
+                "\u{20AC}",
+                "a cut sequence before a whole one",
+            ),
         ];
         for (bytes, want, what) in cases {
             let text = clean(rt.alloc(), bytes)?;

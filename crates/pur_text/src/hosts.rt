@@ -1,5 +1,6 @@
 //! Canonical hosts: names, and IPv6 addresses in brackets (RFC 3986, section 3.2.2).
 ghost use Rattle.std.specs.Prelude.{◌≡◌, ◌≤◌, length};
+ghost use Rattle.std.specs.List.{list_all};
 ghost use Rattle.pur_text.specs.Hosts.{is_host, is_host_name, is_label, is_label_byte, is_letter_or_digit};
 
 use crate::addresses::is_ip6_literal;
@@ -23,13 +24,18 @@ fn is_host_name(text: &[u8]) -> bool
 fn is_label(label: &[u8]) -> bool
     ensures { result ≡ is_label label.now }
 {
-    match label {
-        [first, .., last] => {
-            is_letter_or_digit(first) && is_letter_or_digit(last) && label.iter().all(is_label_byte)
-        }
-        [only] => is_letter_or_digit(only),
-        [] => false,
+    if label.is_empty() {
+        return false;
     }
+    is_letter_or_digit(&label[0])
+        && is_letter_or_digit(&label[label.len() - 1])
+        && has_label_bytes(label)
+}
+
+fn has_label_bytes(label: &[u8]) -> bool
+    ensures { result ≡ list_all is_label_byte label.now }
+{
+    label.iter().all(is_label_byte)
 }
 
 fn is_label_byte(byte: &u8) -> bool

@@ -2,12 +2,14 @@
 //! which texts are canonical hosts.
 #![tactic(auto)]
 
+mod addresses;
 mod characters;
 mod cleaning;
-mod addresses;
 mod hosts;
+mod laws;
 mod runs;
 
 pub use characters::{is_allowed, is_space, lower_ascii};
 pub use cleaning::clean;
 pub use hosts::is_host;
+pub use laws::{allowed_is_cleaned, cleaned_is_allowed, cleaning_settles};

@@ -22,14 +22,13 @@ cleaning-preserved c =
     let clean = string_bytes c.cleaning.clean in
     let ended = run_ended rest end (c.in-Some.ensures ∙ ap (position needs_care) c.as_bytes.ensures.value) in
     let run = take end rest in
-    let is_run : IsUtf8 run = IsUtf8-take rest end c.cleaning.invariant.0 ended.boundary in
-    (
+    let is_run : IsUtf8 run = IsUtf8-take rest end c.cleaning.invariant.0 ended.boundary in (
       c.in_ok-rest.ensures.text,
       c.in_ok-rest.ensures.step
-      ∙ run_copied clean run _ _ rest _ (IsUtf8-string_bytes c.cleaning.clean) is_run
-      (c.in_ok-push_str.ensures.bytes ∙ ap (λ t. clean ++ t) c.split_at.ensures.front)
-      (sym (take-append-drop end rest) ∙ ap (λ t. run ++ t) (sym c.split_at.ensures.back))
-      (run_allowed run is_run ended.quiet) c.cleaning.invariant.1,
+          ∙ run_copied clean run _ _ rest _ (IsUtf8-string_bytes c.cleaning.clean) is_run
+          (c.in_ok-push_str.ensures.bytes ∙ ap (λ t. clean ++ t) c.split_at.ensures.front)
+          (sym (take-append-drop end rest) ∙ ap (λ t. run ++ t) (sym c.split_at.ensures.back))
+          (run_allowed run is_run ended.quiet) c.cleaning.invariant.1,
     )
 
 pub returns : goal.returns
