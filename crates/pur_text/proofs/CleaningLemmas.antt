@@ -1,16 +1,15 @@
 -- How cleaning goes over bytes and characters from the front.
-use Rattle.std.proofs.Common.{◌≡◌, ◌⊎◌, ℕ, zero, suc, ◌+◌, ◌-◌, ◌<◌, ◌≤◌, Bool, true, false, List, [], ◌∷◌, ◌++◌, length, take, drop, filter, slice_index, Some, None, IsUtf8, encode_utf8, encode_utf8_all, refl, sym, ap, subst, ◌∙◌, arith, ⊎_elim, append_assoc, append-nil, length-append, length-drop, drop-drop, drop_at, add-one}
-use Rattle.std.specs.Prelude.{◌==◌, ◌&&◌, not, Option}
+use Rattle.std.proofs.Common.{◌≡◌, ℕ, zero, suc, ◌-◌, ◌<◌, ◌≤◌, Bool, true, false, List, [], ◌∷◌, ◌++◌, length, drop, filter, slice_index, None, IsUtf8, encode_utf8, encode_utf8_all, refl, sym, ap, subst, ◌∙◌, arith, ⊎_elim, append_assoc, append-nil, length-append, length-drop, drop_at}
+use Rattle.std.specs.Prelude.{◌==◌, Option}
 use Rattle.std.specs.List.{list_all}
 use Rattle.std.specs.Str.{chars}
-use Rattle.std.proofs.lemmas.Bool.{cases_Bool, cases_lt, cond-true, cond-false, and_parts, and_from}
+use Rattle.std.proofs.lemmas.Bool.{cases_Bool, cases_lt, cond-true, cond-false, and_parts}
 use Rattle.std.proofs.lemmas.Bool.Decides.{nat_tests}
-use Rattle.std.proofs.lemmas.Grind.{common_steps}
 use Rattle.std.proofs.lemmas.List.Elements.{filter-append}
 use Rattle.std.proofs.lemmas.Str.{chars-nil, chars-append, chars_past_char, chars-encodes, byte_from_char, char_from_byte, utf8_valid_len-IsUtf8, length-encode, len_utf8_bounds}
 use lib.Utf8.{scalars, scalar}
 use Rattle.std.specs.Str.Lossy.{utf8_valid_len, utf8_invalid_len}
-use Rattle.bstr.specs.Utf8.{Decoded, decoded, continues, good, bad}
+use Rattle.bstr.specs.Utf8.{Decoded, decoded, continues, good}
 use Rattle.bstr.proofs.lemmas.EncodeLemmas.{decoded-encode}
 use Rattle.std.proofs.lemmas.List.{nil_from_length}
 use Rattle.bstr.proofs.lemmas.LossyLemmas.{utf8_valid_len-cases, utf8_invalid_len-decoded}
@@ -264,6 +263,7 @@ all_kept p (x ∷ xs) = ⊎_elim
 
 -- what bytes are cleaned to has only allowed characters
 pub cleaned_allowed : (bytes : List ℕ) → list_all is_allowed (cleaned bytes) ≡ true
+unfolding cleaned
 cleaned_allowed bytes = all_kept is_allowed (with_line_feeds (chars_of bytes))
 
 -- an allowed character is a character
@@ -285,11 +285,12 @@ tidied_allowed text all =
 
 -- a text of allowed characters, as bytes and as characters
 pub cleaned_text : (bytes : List ℕ) → IsUtf8 bytes → list_all is_allowed (chars bytes) ≡ true → cleaned bytes ≡ chars bytes
+unfolding cleaned
 cleaned_text bytes text all =
     ap (λ t. filter is_allowed (with_line_feeds t)) (chars_of-IsUtf8 bytes text) ∙ tidied_allowed (chars bytes) all
 
 pub cleaned_encoded : (text : List ℕ) → list_all is_allowed text ≡ true → cleaned (encode_utf8_all text) ≡ text
-unfolding chars_behind
+unfolding chars_behind cleaned
 cleaned_encoded text all =
     let bytes = encode_utf8_all text in
     let read : chars_of bytes ≡ text =

@@ -1,6 +1,6 @@
 -- A run of bytes that need no care is text of allowed characters.
-use Rattle.std.proofs.Common.{◌≡◌, ◌⊎◌, ℕ, zero, suc, ◌+◌, ◌-◌, ◌*◌, ◌/◌, ◌%◌, ◌<◌, ◌≤◌, Bool, true, false, List, [], ◌∷◌, ◌++◌, length, take, drop, get_or, Some, None, IsUtf8, encode_utf8_all, refl, sym, ap, subst, ◌∙◌, arith, ⊎_elim, inl, inr, take_all}
-use Rattle.std.specs.Prelude.{◌==◌, ◌&&◌, not, nat_lt, Option}
+use Rattle.std.proofs.Common.{◌≡◌, ◌⊎◌, ℕ, suc, ◌+◌, ◌/◌, ◌%◌, ◌<◌, ◌≤◌, Bool, true, false, List, [], ◌∷◌, length, take, Some, None, IsUtf8, encode_utf8_all, refl, sym, ap, subst, ◌∙◌, arith, ⊎_elim, inl, inr, take_all}
+use Rattle.std.specs.Prelude.{not, nat_lt}
 use Rattle.std.specs.Char.{encode_utf8}
 use Rattle.std.specs.List.{list_all, position, position_or_len, prefix_len}
 use Rattle.std.specs.Str.{chars, IsCharBoundary}

@@ -35,6 +35,6 @@ unfoldable pub with_line_feeds : List ℕ → List ℕ
 with_line_feeds [] = []
 with_line_feeds (c ∷ behind) = line_feed_for c behind ++ with_line_feeds behind
 
--- the text that the bytes are cleaned to
-abbrev pub cleaned : List ℕ → List ℕ
+-- the text that the bytes are cleaned to: their characters, with line feeds for line ends, those that are allowed
+unfoldable pub cleaned : List ℕ → List ℕ
 cleaned bytes = filter is_allowed (with_line_feeds (chars_of bytes))

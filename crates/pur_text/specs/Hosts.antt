@@ -1,5 +1,5 @@
 -- Canonical hosts: names, and IPv6 addresses in brackets (RFC 3986, section 3.2.2).
-use Rattle.std.specs.Prelude.{ℕ, suc, ◌+◌, ◌-◌, ◌==◌, ◌&&◌, ◌||◌, not, nat_le, Bool, true, false, if◌then◌else◌, List, [], ◌∷◌, length, take, drop, map, slice_index, codes, Option, Some, None, option_map}
+use Rattle.std.specs.Prelude.{ℕ, suc, ◌+◌, ◌-◌, ◌==◌, ◌&&◌, ◌||◌, not, nat_le, Bool, false, if◌then◌else◌, List, [], ◌∷◌, length, take, drop, slice_index, codes, Option, Some, None, option_map}
 use Rattle.std.specs.List.{list_all, slice_split}
 use Rattle.std.specs.Option.{option_map_or}
 use Rattle.std.specs.Str.Parse.{digits_value}
@@ -90,5 +90,5 @@ is_ip6_literal text =
     && is_ip6_address (take (length text - 2) (drop 1 text))
 
 -- a canonical host: at most 255 bytes, which are a name or an IPv6 literal
-abbrev pub is_host : List ℕ → Bool
+unfoldable pub is_host : List ℕ → Bool
 is_host text = nat_le (length text) 255 && (is_host_name text || is_ip6_literal text)

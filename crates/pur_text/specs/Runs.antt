@@ -1,6 +1,5 @@
 -- Runs of characters that cleaning leaves as they are.
 use Rattle.std.specs.Prelude.{ℕ, Bool, ◌==◌, ◌||◌, ◌&&◌, nat_lt, not}
-use Rattle.pur_text.specs.Characters.{is_between}
 
 -- the byte begins a CR or a character that isn't allowed, or may begin one
 abbrev pub needs_care : ℕ → Bool

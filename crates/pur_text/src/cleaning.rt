@@ -15,6 +15,7 @@ use std::alloc::{AllocError, Global};
 /// dropped after. So a CR, a byte that is no text and an LF are one line end, and a CR, a NUL and an LF are two.
 ///
 /// The error is want of memory.
+#[tactic(auto, unfolding(crate::specs::Cleaning::cleaned))]
 pub fn clean(alloc: Global, bytes: &[u8]) -> Result<String, AllocError>
     ensures { IfOk result (λ text. chars (string_bytes text) ≡ cleaned bytes.now) }
 {

@@ -8,6 +8,7 @@ use crate::addresses::is_ip6_literal;
 /// Whether the text is a canonical host. That is at most 255 bytes. It is one or more labels joined by `.`, each of the
 /// letters a to z, digits, `-` and `_`, beginning and ending with a letter or digit; or it is `[`, an IPv6address of RFC
 /// 3986, section 3.2.2, with digits in lower case, and `]`.
+#[tactic(auto, unfolding(crate::specs::Hosts::is_host))]
 pub fn is_host(text: &str) -> bool
     ensures { result ≡ is_host text.now }
 {

@@ -1,4 +1,4 @@
-use Rattle.std.proofs.Common.{◌≡◌, ◌∙◌, sym}
+use Rattle.std.proofs.Common.{◌∙◌, sym}
 use Rattle.std.proofs.lemmas.Bool.{ne_eqb}
 use Rattle.pur_text.proofs.HostLemmas.{ip4_counted, ip4_miscounted}
 use Rattle.pur_text.proofs.addresses.is_ip4_address.Goals as goal

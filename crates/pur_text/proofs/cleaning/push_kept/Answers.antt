@@ -1,4 +1,4 @@
-use Rattle.std.proofs.Common.{◌≡◌, ◌++◌, sym, ap, ◌∙◌, string_bytes}
+use Rattle.std.proofs.Common.{◌++◌, sym, ap, ◌∙◌, string_bytes}
 use Rattle.std.specs.Str.{chars}
 use Rattle.pur_text.specs.Cleaning.{character_list}
 use Rattle.pur_text.proofs.cleaning.push_kept.Goals as goal

@@ -1,9 +1,7 @@
-use Rattle.std.proofs.Common.{◌≡◌, ◌++◌, ◌∙◌, [], ap, sym, subst, string_bytes, IsUtf8}
+use Rattle.std.proofs.Common.{◌≡◌, ◌++◌, ◌∙◌, ap, subst, string_bytes, IsUtf8}
 use Rattle.std.proofs.lemmas.List.{nil_from_length}
 use Rattle.std.proofs.lemmas.Str.{IsUtf8-string_bytes}
-use Rattle.std.specs.Str.{chars}
 use Rattle.std.specs.Str.Chunks.{utf8_chunks_rest, utf8_chunk_valid, utf8_chunk_invalid}
-use Rattle.pur_text.specs.Cleaning.{chars_of}
 use Rattle.pur_text.proofs.CleaningLemmas.{chunk_read, chunk_joined, nothing_read, all_read}
 use Rattle.pur_text.proofs.cleaning.read_text.Goals as goal
 

@@ -1,4 +1,4 @@
-use Rattle.std.proofs.Common.{◌≡◌, ◌<◌, eq-eqb, sym, lit<}
+use Rattle.std.proofs.Common.{eq-eqb, sym, lit<}
 use Rattle.std.proofs.lemmas.Bool.{ne_eqb}
 use Rattle.std.proofs.lemmas.Str.Pattern.{starts_char}
 use Rattle.pur_text.proofs.CleaningLemmas.{pair_dropped, alone_replaced}
