@@ -92,3 +92,19 @@ is_ip6_literal text =
 -- a canonical host: at most 255 bytes, which are a name or an IPv6 literal
 unfoldable pub is_host : List ℕ → Bool
 is_host text = nat_le (length text) 255 && (is_host_name text || is_ip6_literal text)
+
+-- ---- what hosts are made of
+
+-- the bytes of a name
+abbrev pub is_name_byte : ℕ → Bool
+is_name_byte b = is_label_byte b || b == 0x2E
+
+-- the bytes of an IPv6 address
+abbrev pub is_ip6_byte : ℕ → Bool
+is_ip6_byte b = is_hex_digit b || b == 0x3A || b == 0x2E
+
+-- `[`, such bytes, `]`
+abbrev pub is_bracketed : List ℕ → Bool
+is_bracketed text =
+    slice_index text 0 == 0x5B && slice_index text (length text - 1) == 0x5D
+    && list_all is_ip6_byte (take (length text - 2) (drop 1 text))

@@ -12,4 +12,6 @@ mod runs;
 pub use characters::{is_allowed, is_space, lower_ascii};
 pub use cleaning::clean;
 pub use hosts::is_host;
-pub use laws::{allowed_is_cleaned, cleaned_is_allowed, cleaning_settles};
+pub use laws::{
+    allowed_is_cleaned, cleaned_is_allowed, cleaning_settles, host_is_lowered, host_is_plain,
+};
