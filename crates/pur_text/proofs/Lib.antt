@@ -1,0 +1,4 @@
+pub mod CleaningLemmas
+pub mod HostLaws
+pub mod HostLemmas
+pub mod RunLemmas

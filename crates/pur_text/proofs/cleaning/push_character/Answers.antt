@@ -1,0 +1,10 @@
+use Rattle.std.proofs.Common.{◌∙◌, ap, string_bytes}
+use Rattle.std.specs.Str.{chars}
+use Rattle.std.proofs.lemmas.Str.{IsUtf8-string_bytes}
+use Rattle.pur_text.proofs.CleaningLemmas.{chars_push}
+use Rattle.pur_text.proofs.cleaning.push_character.Goals as goal
+
+pub returns : goal.returns
+returns c =
+    ap chars c.in_ok-push.ensures.bytes
+    ∙ chars_push (string_bytes c.args.clean.now) c.args.c (IsUtf8-string_bytes c.args.clean.now) c.ranges.c.0

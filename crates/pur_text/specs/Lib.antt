@@ -1,0 +1,4 @@
+pub mod Characters
+pub mod Cleaning
+pub mod Hosts
+pub mod Runs

@@ -1,0 +1,168 @@
+//! From the bytes of an input to the text that the filter reads.
+ghost use Rattle.std.specs.Prelude.{◌≡◌, [], ◌∷◌, ◌++◌, ◌<◌, length, IfOk, OnOk, filter, string_bytes};
+ghost use Rattle.std.specs.Str.{chars, IsUtf8};
+ghost use Rattle.pur_text.specs.Characters.{is_allowed};
+ghost use Rattle.pur_text.specs.Cleaning.{character_list, line_feed_for, chars_of, with_line_feeds, cleaned};
+
+use crate::characters::is_allowed;
+use crate::runs::run_end;
+use std::alloc::{AllocError, Global};
+
+/// The text of the bytes: their characters, read as UTF-8 (Unicode, Table 3-7), with LF for each line end CR LF or CR
+/// (XML 1.0, section 2.11), and without the characters that `is_allowed` refuses.
+///
+/// A byte that begins no well-formed sequence is dropped, before line ends are read; a character that isn't allowed is
+/// dropped after. So a CR, a byte that is no text and an LF are one line end, and a CR, a NUL and an LF are two.
+///
+/// The error is want of memory.
+#[tactic(auto, unfolding(crate::specs::Cleaning::cleaned))]
+pub fn clean(alloc: Global, bytes: &[u8]) -> Result<String, AllocError>
+    ensures { IfOk result (λ text. chars (string_bytes text) ≡ cleaned bytes.now) }
+{
+    match simdutf8::basic::from_utf8(bytes) {
+        Ok(text) => clean_text(alloc, text),
+        Err(_) => {
+            let text = read_text(alloc, bytes)?;
+            clean_text(alloc, text.as_str())
+        }
+    }
+}
+
+/// The characters of the bytes. What begins no well-formed sequence is dropped, a byte at a time.
+fn read_text(alloc: Global, bytes: &[u8]) -> Result<String, AllocError>
+    ensures { IfOk result (λ text. chars (string_bytes text) ≡ chars_of bytes.now) }
+{
+    let mut text = String::new(alloc);
+    for chunk in bytes.utf8_chunks() {
+        text.push_str(chunk.valid())?;
+    }
+    Ok(text)
+}
+
+/// The allowed characters of the text, with its line ends as LF.
+fn clean_text(alloc: Global, text: &str) -> Result<String, AllocError>
+    ensures { IfOk result (λ clean. chars (string_bytes clean) ≡ filter is_allowed (with_line_feeds (chars text.now))) }
+{
+    let mut clean = String::new(alloc);
+    let mut rest = text;
+    'cleaning: while let Some(end) = run_end(rest.as_bytes()) {
+        let (run, behind) = rest.split_at(end);
+        clean.push_str(run)?;
+        rest = push_first(&mut clean, behind)?;
+    }
+    clean.push_str(rest)?;
+    Ok(clean)
+}
+
+/// Writes what stands for the first character of the text, and gives the text behind it.
+fn push_first<'a>(clean: &mut String, text: &'a str) -> Result<&'a str, AllocError>
+    requires { 0 < length text.now }
+    ensures text { IfOk result (λ behind. IsUtf8 behind.now) }
+    ensures shorter { IfOk result (λ behind. length behind.now < length text.now) }
+    ensures step { IfOk result (λ behind. chars (string_bytes clean.new) ++ filter is_allowed (with_line_feeds (chars behind.now))
+        ≡ chars (string_bytes clean.old) ++ filter is_allowed (with_line_feeds (chars text.now))) }
+{
+    let mut behind = text.chars();
+    let Some(first) = behind.next() else {
+        return Ok(text);
+    };
+    push_kept(clean, replacement(first, behind.as_str()))?;
+    Ok(behind.as_str())
+}
+
+/// Writes the character, if there is one.
+fn push_kept(clean: &mut String, kept: Option<char>) -> Result<(), AllocError>
+    ensures { OnOk result (chars (string_bytes clean.new) ≡ chars (string_bytes clean.old) ++ character_list kept) }
+{
+    if let Some(c) = kept {
+        push_character(clean, c)?;
+    }
+    Ok(())
+}
+
+fn push_character(clean: &mut String, c: char) -> Result<(), AllocError>
+    ensures { OnOk result (chars (string_bytes clean.new) ≡ chars (string_bytes clean.old) ++ c ∷ []) }
+{
+    clean.push(c)?;
+    Ok(())
+}
+
+/// What stands for the character where this text is behind it, if anything does.
+fn replacement(c: char, behind: &str) -> Option<char>
+    ensures { character_list result ≡ filter is_allowed (line_feed_for c (chars behind.now)) }
+{
+    match c {
+        '\r' if behind.starts_with('\n') => None,
+        '\r' => Some('\n'),
+        c if is_allowed(c) => Some(c),
+        _ => None,
+    }
+}
+
+#[cfg(test)]
+mod tests {
+    use super::*;
+    use std::test::Fail;
+
+    #[test]
+    fn cleans_bytes(rt: HostRuntime) -> Result<(), Fail> {
+        let cases: [(&[u8], &str, &str); 15] = [
+            (b"", "", "nothing"),
+            (
+                b"plain text\n\tgoes on",
+                "plain text\n\tgoes on",
+                "allowed characters stay",
+            ),
+            (
+                b"\x41\xC3\x28\x00\x42",
+                "A(B",
+                "a byte without its second, and a NUL",
+            ),
+            (b"a\r\nb", "a\nb", "CR LF is one line end"),
+            (b"a\rb\r", "a\nb\n", "a CR alone is a line end"),
+            (b"a\r\r\nb", "a\n\nb", "CR, then CR LF"),
+            (
+                b"a\r\xFF\nb",
+                "a\nb",
+                "CR, a dropped byte, LF are one line end",
+            ),
+            (
+                b"a\r\x00\nb",
+                "a\n\nb",
+                "CR, a dropped character, LF are two",
+            ),
+            (
+                b"\xC2\xA9\xC2\x85\xC2\xA0",
+                "\u{A9}\u{A0}",
+                "U+0085 is dropped, its neighbours stay",
+            ),
+            (b"\x7F~\x1F", "~", "U+007F and U+001F are dropped"),
+            (
+                b"\xEF\xBF\xBD\xEF\xBF\xBE\xEF\xBF\xBF",
+                "\u{FFFD}",
+                "U+FFFE and U+FFFF are dropped",
+            ),
+            (
+                b"\xED\xA0\x80x\xC0\x80y",
+                "xy",
+                "a surrogate and an overlong NUL are no text",
+            ),
+            (
+                b"\xF0\x9F\x98\x80\xF4\x8F\xBF\xBF",
+                "\u{1F600}\u{10FFFF}",
+                "the planes above stay",
+            ),
+            (b"\xE2\x82x\xF0\x9F\x98", "x", "sequences that are cut off"),
+            (
+                b"\xE2\x82\xE2\x82\xAC",
+                "\u{20AC}",
+                "a cut sequence before a whole one",
+            ),
+        ];
+        for (bytes, want, what) in cases {
+            let text = clean(rt.alloc(), bytes)?;
+            assert_eq!(rt; text.as_str(), want, "{what}");
+        }
+        Ok(())
+    }
+}

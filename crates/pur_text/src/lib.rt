@@ -1,0 +1,17 @@
+//! Characters and texts: which characters a filtered text may have, how the bytes of an input become such a text, and
+//! which texts are canonical hosts.
+#![tactic(auto)]
+
+mod addresses;
+mod characters;
+mod cleaning;
+mod hosts;
+mod laws;
+mod runs;
+
+pub use characters::{is_allowed, is_space, lower_ascii};
+pub use cleaning::clean;
+pub use hosts::is_host;
+pub use laws::{
+    allowed_is_cleaned, cleaned_is_allowed, cleaning_settles, host_is_lowered, host_is_plain,
+};
