@@ -1,11 +1,10 @@
 use Rattle.std.proofs.Common.{◌≡◌, ℕ, List, [], ◌∷◌, length, refl, Bool, true, false, nat_lt, if◌then◌else◌, Option, Some, None, IfSome}
 use Rattle.pur_io.specs.Texts.{Name, text_named}
-use Rattle.pur_cli.specs.declared.status.Status.{Status}
 use Rattle.pur_cli.specs.declared.status.Status.TheVariants.{Done, InputTooLong}
 use Rattle.pur_cli.specs.Good.{IsGood}
 use Rattle.pur_cli.specs.Limits.{input_limit}
 use Rattle.pur_cli.specs.Purified.{purified}
-use Rattle.pur_cli.specs.Statuses.{Answer, answer_by, answer_to, answer_of, refusal_of}
+use Rattle.pur_cli.specs.Statuses.{answer_by, answer_of, refusal_of}
 use Rattle.pur_cli.proofs.GoodLemmas.{good-purified, purified-good, purified-twice}
 
 by_done : (found : Option (List ℕ)) → (answer_by found).status ≡ Done → found ≡ Some (answer_by found).text

@@ -1,13 +1,12 @@
-use Rattle.std.proofs.Common.{◌≡◌, ℕ, List, [], ◌∷◌, ◌++◌, length, refl, ap, sym, ◌∙◌, Bool, true, false, append_assoc, append-nil, map, ◌<◌, ◌+◌, drop, drop-cons, get_or, add-one, arith, IsTrue, subst}
+use Rattle.std.proofs.Common.{◌≡◌, ℕ, List, [], ◌∷◌, ◌++◌, length, refl, ap, sym, ◌∙◌, Bool, true, false, append_assoc, map, ◌<◌, ◌+◌, drop, drop-cons, get_or, add-one, arith, IsTrue}
 use Rattle.std.specs.Str.{chars}
 use Rattle.std.specs.List.{list_all}
 use Rattle.std.proofs.lemmas.Str.{chars-nil}
 use Rattle.pur_tree.proofs.NodesLemmas.{left_of, right_of}
-use Rattle.pur_lexer.specs.Marks.{PlainMark, text_mark, open_mark, close_mark, break_mark}
+use Rattle.pur_lexer.specs.Marks.{PlainMark}
 use Rattle.pur_tree.specs.declared.element.Element.{Element}
-use Rattle.pur_tree.specs.declared.element.Element.TheVariants.{P, Br}
-use Rattle.pur_tree.specs.Building.{closings_of, can_hold, last_of}
-use Rattle.pur_tree.specs.Tokens.{Token, text_token, start_token, end_token, empty_token, opening_of, closing_of, joined}
+use Rattle.pur_tree.specs.Building.{closings_of, can_hold}
+use Rattle.pur_tree.specs.Tokens.{Token, text_token, joined}
 use Rattle.pur_tree.proofs.TokensLemmas.{joined-joined}
 use Rattle.pur_cli.specs.Closing.{step, open_elements, ending, is_some_mark, closed_from}
 
@@ -53,4 +52,4 @@ closed-step w v b after m ms e h = rw e (h (closed_from (step b m).is_open ms))
 pub closed-end : (w : List Token) (b : Bool) (es : List Element) (all : List Token) → es ≡ open_elements b
     → joined (w ++ closed_from b []) ≡ all → joined (w ++ closings_of es) ≡ w ++ closings_of es → w ++ closings_of es ≡ all
 closed-end w b es all e same settled =
-  sym settled ∙ ap (λ ts. joined (w ++ ts)) (ap closings_of e ∙ closings-open b) ∙ same
+    sym settled ∙ ap (λ ts. joined (w ++ ts)) (ap closings_of e ∙ closings-open b) ∙ same

@@ -6,10 +6,9 @@ use Rattle.std.proofs.lemmas.List.Folds.{list_all-append}
 use Rattle.pur_lexer.specs.Marks.{PlainMark, text_mark, open_mark, close_mark, break_mark, is_plain, is_plain_text, is_plain_marks, begins_with_text as begins_with_text_mark, spelling_of_mark, spelled_by, marks_of}
 use Rattle.pur_lexer.proofs.MarkLemmas.{first-well, marks-well}
 use Rattle.pur_lexer.proofs.SpellingLemmas.{marks_of-spelled_by, spelled_by-marks_of}
-use Rattle.pur_tree.specs.declared.element.Element.{Element}
 use Rattle.pur_tree.specs.declared.element.Element.TheVariants.{P, Br}
 use Rattle.pur_tree.specs.Elements.{is_empty_element}
-use Rattle.pur_tree.specs.Nodes.{Nodes, no_nodes, text_first, elem_first, is_sound, is_joined, starts_with_text, has_no_nodes}
+use Rattle.pur_tree.specs.Nodes.{Nodes, no_nodes, text_first, elem_first, is_sound, is_joined, has_no_nodes}
 use Rattle.pur_tree.specs.Building.{ends_with_text}
 use Rattle.pur_tree.specs.Spelling.{is_markup, has_plain_texts, start_tag_of, end_tag_of, empty_tag_of, spelling_of, Spells, spells_nothing, spells_text, spells_empty, spells_element}
 use Rattle.pur_tree.specs.Tokens.{Token, text_token, start_token, end_token, empty_token, tokens_of_nodes, join_token, joined, tree_of}
@@ -17,7 +16,7 @@ use Rattle.pur_tree.proofs.NodesLemmas.{left_of, right_of, both, or_true}
 use Rattle.pur_tree.proofs.TreeLemmas.{tree_of-tokens, is_some_token, sound-levels, joined-balanced, joined-tree_of}
 use Rattle.pur_tree.proofs.TokensLemmas.{joined-tree, none_of, never}
 use Rattle.pur_tree.proofs.SpellingLemmas.{Spells-spelling, spelling-spelled, neither_left, neither_right}
-use Rattle.pur_cli.specs.Closing.{step, closed_from, closed}
+use Rattle.pur_cli.specs.Closing.{closed_from, closed}
 use Rattle.pur_cli.specs.Good.{is_valid_in, is_valid, IsGood}
 use Rattle.pur_cli.specs.Purified.{fragment_of, purified}
 use Rattle.pur_cli.proofs.FragmentLemmas.{is_plain_token, has_plain, tokens-closed, plain-tree, plain-joined, plain-closed_from, balanced-closed_from, text-plain}
@@ -69,17 +68,17 @@ valid-nodes : (b : Bool) (n : Nodes) (x : List Token) → is_sound n ≡ true �
 valid-nodes b no_nodes x s h = (refl, h)
 valid-nodes b (text_first t n) x s h = valid-nodes b n x (right_of _ _ s) h
 valid-nodes b (elem_first Br k n) x s h =
-  let w = left_of (not (is_empty_element Br) || has_no_nodes k) (is_sound k && is_sound n) s in
-  let kn : k ≡ no_nodes = none_of k w in
-  let r = valid-nodes b n x (right_of (is_sound k) (is_sound n) (right_of (not (is_empty_element Br) || has_no_nodes k) (is_sound k && is_sound n) s))
-      (subst (λ (z : Nodes). nests b (tokens_of_nodes (elem_first Br z n) ++ x) ≡ true) kn h) in
-  (both w r.0, r.1)
+    let w = left_of (not (is_empty_element Br) || has_no_nodes k) (is_sound k && is_sound n) s in
+    let kn : k ≡ no_nodes = none_of k w in
+    let r = valid-nodes b n x (right_of (is_sound k) (is_sound n) (right_of (not (is_empty_element Br) || has_no_nodes k) (is_sound k && is_sound n) s))
+    (subst (λ (z : Nodes). nests b (tokens_of_nodes (elem_first Br z n) ++ x) ≡ true) kn h) in
+    (both w r.0, r.1)
 valid-nodes true (elem_first P k n) x s h = absurd (cc)
 valid-nodes false (elem_first P k n) x s h =
-  let inner = valid-nodes true k (end_token P ∷ (tokens_of_nodes n ++ x)) (left_of (is_sound k) (is_sound n) s)
-      (ap (nests true) (sym (append_assoc (tokens_of_nodes k) (end_token P ∷ tokens_of_nodes n) x)) ∙ h) in
-  let behind = valid-nodes false n x (right_of (is_sound k) (is_sound n) s) inner.1 in
-  (both inner.0 behind.0, behind.1)
+    let inner = valid-nodes true k (end_token P ∷ (tokens_of_nodes n ++ x)) (left_of (is_sound k) (is_sound n) s)
+    (ap (nests true) (sym (append_assoc (tokens_of_nodes k) (end_token P ∷ tokens_of_nodes n) x)) ∙ h) in
+    let behind = valid-nodes false n x (right_of (is_sound k) (is_sound n) s) inner.1 in
+    (both inner.0 behind.0, behind.1)
 
 -- plain texts aren't empty
 some-plain_tokens : (ts : List Token) → list_all is_plain_token ts ≡ true → list_all is_some_token ts ≡ true
@@ -102,7 +101,7 @@ no_markup (c ∷ s) h = rw (plain_is_no_markup c (left_of (is_plain c) (list_all
 plain_texts : (n : Nodes) → has_plain n ≡ true → has_plain_texts n ≡ true
 plain_texts no_nodes h = refl
 plain_texts (text_first s n) h =
-  both (ap not (no_markup s (text-plain s (left_of (is_plain_text s) (has_plain n) h)))) (plain_texts n (right_of (is_plain_text s) (has_plain n) h))
+    both (ap not (no_markup s (text-plain s (left_of (is_plain_text s) (has_plain n) h)))) (plain_texts n (right_of (is_plain_text s) (has_plain n) h))
 plain_texts (elem_first e k n) h = both (plain_texts k (left_of (has_plain k) (has_plain n) h)) (plain_texts n (right_of (has_plain k) (has_plain n) h))
 
 -- what is known of the tree of closed plain marks
@@ -114,13 +113,14 @@ pub record IsClosedTree (n : Nodes) : Type 0 where
 
 pub closed_tree : (ms : List PlainMark) → IsTrue (is_plain_marks ms) → IsClosedTree (tree_of (closed ms))
 closed_tree ms h =
-  let sound = (sound-levels (joined-balanced (balanced-closed_from false ms)) (some-plain_tokens (closed ms) (plain-joined (closed_from false ms) (plain-closed_from false ms h)))).0 in
-  let nested = ap (λ ts. nests false ts) (append-nil (tokens_of_nodes (tree_of (closed ms))) ∙ tokens-closed ms) ∙ nests-joined false (closed_from false ms) ∙ nests-closed_from false ms in
-  record {
-    sound = sound;
-    joined = joined-tree_of (tree_of (closed ms)) (closed_from false ms) (tokens-closed ms);
-    plain = plain-tree ms h;
-    valid = (valid-nodes false (tree_of (closed ms)) [] sound nested).0 }
+    let sound = (sound-levels (joined-balanced (balanced-closed_from false ms)) (some-plain_tokens (closed ms) (plain-joined (closed_from false ms) (plain-closed_from false ms h)))).0 in
+    let nested = ap (λ ts. nests false ts) (append-nil (tokens_of_nodes (tree_of (closed ms))) ∙ tokens-closed ms) ∙ nests-joined false (closed_from false ms) ∙ nests-closed_from false ms in
+    record {
+      sound = sound;
+      joined = joined-tree_of (tree_of (closed ms)) (closed_from false ms) (tokens-closed ms);
+      plain = plain-tree ms h;
+      valid = (valid-nodes false (tree_of (closed ms)) [] sound nested).0;
+    }
 
 -- such a tree is spelled by a good fragment
 pub good-closed_tree : (n : Nodes) → IsClosedTree n → IsGood (spelling_of n)
@@ -142,8 +142,8 @@ marks_of_purified input text e = go (marks_of input) refl e
 -- every purification is a good fragment
 pub good-purified : (input text : List ℕ) → purified input ≡ Some text → IsGood text
 good-purified input text e =
-  let m = marks_of_purified input text e in
-  subst IsGood (sym m.text_is) (good-closed_tree (tree_of (closed m.marks)) (closed_tree m.marks (marks-well input m.marks m.read)))
+    let m = marks_of_purified input text e in
+    subst IsGood (sym m.text_is) (good-closed_tree (tree_of (closed m.marks)) (closed_tree m.marks (marks-well input m.marks m.read)))
 
 -- the marks that write valid nodes out
 abbrev pub marks_in : Nodes → List PlainMark
@@ -163,7 +163,7 @@ unfolding spelled_by
 spelled_by-marks_in no_nodes = refl
 spelled_by-marks_in (text_first s n) = ap (λ x. s ++ x) (spelled_by-marks_in n)
 spelled_by-marks_in (elem_first P k n) =
-  ap (λ x. 60 ∷ 112 ∷ 62 ∷ x) (spelled_by-append (marks_in k) (close_mark ∷ marks_in n)
+    ap (λ x. 60 ∷ 112 ∷ 62 ∷ x) (spelled_by-append (marks_in k) (close_mark ∷ marks_in n)
     ∙ ap (λ x. x ++ (60 ∷ 47 ∷ 112 ∷ 62 ∷ spelled_by (marks_in n))) (spelled_by-marks_in k)
     ∙ ap (λ x. spelling_of k ++ (60 ∷ 47 ∷ 112 ∷ 62 ∷ x)) (spelled_by-marks_in n))
 spelled_by-marks_in (elem_first Br k n) = ap (λ x. 60 ∷ 98 ∷ 114 ∷ 32 ∷ 47 ∷ 62 ∷ x) (spelled_by-marks_in n)
@@ -176,13 +176,13 @@ plain-marks_in no_nodes ms p j m h = h
 plain-marks_in (text_first t no_nodes) ms p j m h = both (both (left_of (is_plain_text t) true p) (ap not m)) h
 plain-marks_in (text_first t (text_first u n)) ms p j m h = absurd (cc)
 plain-marks_in (text_first t (elem_first P k n)) ms p j m h =
-  both (both (left_of (is_plain_text t) (has_plain (elem_first P k n)) p) refl) (plain-marks_in (elem_first P k n) ms (right_of (is_plain_text t) (has_plain (elem_first P k n)) p) j m h)
+    both (both (left_of (is_plain_text t) (has_plain (elem_first P k n)) p) refl) (plain-marks_in (elem_first P k n) ms (right_of (is_plain_text t) (has_plain (elem_first P k n)) p) j m h)
 plain-marks_in (text_first t (elem_first Br k n)) ms p j m h =
-  both (both (left_of (is_plain_text t) (has_plain (elem_first Br k n)) p) refl) (plain-marks_in (elem_first Br k n) ms (right_of (is_plain_text t) (has_plain (elem_first Br k n)) p) j m h)
+    both (both (left_of (is_plain_text t) (has_plain (elem_first Br k n)) p) refl) (plain-marks_in (elem_first Br k n) ms (right_of (is_plain_text t) (has_plain (elem_first Br k n)) p) j m h)
 plain-marks_in (elem_first P k n) ms p j m h =
-  ap is_plain_marks (append_assoc (marks_in k) (close_mark ∷ marks_in n) ms)
-  ∙ plain-marks_in k (close_mark ∷ (marks_in n ++ ms)) (left_of (has_plain k) (has_plain n) p) (left_of (is_joined k) (is_joined n) j) (never (ends_with_text k))
-      (plain-marks_in n ms (right_of (has_plain k) (has_plain n) p) (right_of (is_joined k) (is_joined n) j) m h)
+    ap is_plain_marks (append_assoc (marks_in k) (close_mark ∷ marks_in n) ms)
+    ∙ plain-marks_in k (close_mark ∷ (marks_in n ++ ms)) (left_of (has_plain k) (has_plain n) p) (left_of (is_joined k) (is_joined n) j) (never (ends_with_text k))
+    (plain-marks_in n ms (right_of (has_plain k) (has_plain n) p) (right_of (is_joined k) (is_joined n) j) m h)
 plain-marks_in (elem_first Br k n) ms p j m h = plain-marks_in n ms (right_of (has_plain k) (has_plain n) p) (right_of (is_joined k) (is_joined n) j) m h
 
 -- closing leaves them as they are
@@ -191,31 +191,31 @@ closed-marks_in b no_nodes ms v = refl
 closed-marks_in b (text_first s n) ms v = ap (λ ts. text_token s ∷ ts) (closed-marks_in b n ms v)
 closed-marks_in true (elem_first P k n) ms v = absurd (cc)
 closed-marks_in false (elem_first P k n) ms v =
-  ap (λ ts. start_token P ∷ ts) (ap (closed_from true) (append_assoc (marks_in k) (close_mark ∷ marks_in n) ms)
+    ap (λ ts. start_token P ∷ ts) (ap (closed_from true) (append_assoc (marks_in k) (close_mark ∷ marks_in n) ms)
     ∙ closed-marks_in true k (close_mark ∷ (marks_in n ++ ms)) (left_of (is_valid_in true k) (is_valid_in false n) v)
     ∙ ap (λ ts. tokens_of_nodes k ++ (end_token P ∷ ts)) (closed-marks_in false n ms (right_of (is_valid_in true k) (is_valid_in false n) v))
     ∙ sym (append_assoc (tokens_of_nodes k) (end_token P ∷ tokens_of_nodes n) (closed_from false ms)))
 closed-marks_in b (elem_first Br k n) ms v =
-  let kn : k ≡ no_nodes = none_of k (left_of (has_no_nodes k) (is_valid_in b n) v) in
-  subst (λ (z : Nodes). empty_token Br ∷ closed_from b (marks_in n ++ ms) ≡ tokens_of_nodes (elem_first Br z n) ++ closed_from b ms) (sym kn)
+    let kn : k ≡ no_nodes = none_of k (left_of (has_no_nodes k) (is_valid_in b n) v) in
+    subst (λ (z : Nodes). empty_token Br ∷ closed_from b (marks_in n ++ ms) ≡ tokens_of_nodes (elem_first Br z n) ++ closed_from b ms) (sym kn)
     (ap (λ ts. empty_token Br ∷ ts) (closed-marks_in b n ms (right_of (has_no_nodes k) (is_valid_in b n) v)))
 
 -- the spelling of such a tree is its own purification
 pub purified-closed_tree : (n : Nodes) → IsClosedTree n → purified (spelling_of n) ≡ Some (spelling_of n)
 unfolding is_plain_marks
 purified-closed_tree n t =
-  let ms = marks_in n in
-  let plain = subst (λ (x : List PlainMark). IsTrue (is_plain_marks x)) (append-nil ms) (plain-marks_in n [] t.plain t.joined (never (ends_with_text n)) refl) in
-  let read = ap marks_of (sym (spelled_by-marks_in n)) ∙ marks_of-spelled_by ms plain in
-  let flat = ap (closed_from false) (sym (append-nil ms)) ∙ closed-marks_in false n [] t.valid ∙ append-nil (tokens_of_nodes n) in
-  let tokens = ap joined flat ∙ joined-tree n (tokens_of_nodes n) t.joined t.sound refl in
-  ap (option_map fragment_of) read ∙ ap Some (ap (λ ts. spelling_of (tree_of ts)) tokens ∙ ap spelling_of (tree_of-tokens n t.sound))
+    let ms = marks_in n in
+    let plain = subst (λ (x : List PlainMark). IsTrue (is_plain_marks x)) (append-nil ms) (plain-marks_in n [] t.plain t.joined (never (ends_with_text n)) refl) in
+    let read = ap marks_of (sym (spelled_by-marks_in n)) ∙ marks_of-spelled_by ms plain in
+    let flat = ap (closed_from false) (sym (append-nil ms)) ∙ closed-marks_in false n [] t.valid ∙ append-nil (tokens_of_nodes n) in
+    let tokens = ap joined flat ∙ joined-tree n (tokens_of_nodes n) t.joined t.sound refl in
+    ap (option_map fragment_of) read ∙ ap Some (ap (λ ts. spelling_of (tree_of ts)) tokens ∙ ap spelling_of (tree_of-tokens n t.sound))
 
 -- the purification of a purification is itself
 pub purified-twice : (input text : List ℕ) → purified input ≡ Some text → purified text ≡ Some text
 purified-twice input text e =
-  let m = marks_of_purified input text e in
-  subst (λ (x : List ℕ). purified x ≡ Some x) (sym m.text_is) (purified-closed_tree (tree_of (closed m.marks)) (closed_tree m.marks (marks-well input m.marks m.read)))
+    let m = marks_of_purified input text e in
+    subst (λ (x : List ℕ). purified x ≡ Some x) (sym m.text_is) (purified-closed_tree (tree_of (closed m.marks)) (closed_tree m.marks (marks-well input m.marks m.read)))
 
 -- the characters of inputs that are built: plain ones, and `<` and `>`
 abbrev is_built : ℕ → Bool
@@ -230,7 +230,7 @@ built-spelled_by : (ms : List PlainMark) → IsTrue (is_plain_marks ms) → list
 unfolding spelled_by is_plain_marks is_plain
 built-spelled_by [] h = refl
 built-spelled_by (text_mark s ∷ ms) h =
-  list_all-append is_built s (spelled_by ms) ∙ both (built-plain s (text-plain s (first-well s ms h).0)) (built-spelled_by ms (first-well s ms h).2)
+    list_all-append is_built s (spelled_by ms) ∙ both (built-plain s (text-plain s (first-well s ms h).0)) (built-spelled_by ms (first-well s ms h).2)
 built-spelled_by (open_mark ∷ ms) h = built-spelled_by ms h
 built-spelled_by (close_mark ∷ ms) h = built-spelled_by ms h
 built-spelled_by (break_mark ∷ ms) h = built-spelled_by ms h
@@ -245,7 +245,7 @@ one_of false false y h k = absurd (cc)
 plain-built : (s : List ℕ) → list_all is_built s ≡ true → list_any is_markup s ≡ false → list_all is_plain s ≡ true
 plain-built [] h k = refl
 plain-built (c ∷ s) h k =
-  both (one_of (is_plain c) ((c == 60) || (c == 62)) (c == 38) (left_of (is_built c) (list_all is_built s) h) (neither_left (is_markup c) (list_any is_markup s) k))
+    both (one_of (is_plain c) ((c == 60) || (c == 62)) (c == 38) (left_of (is_built c) (list_all is_built s) h) (neither_left (is_markup c) (list_any is_markup s) k))
     (plain-built s (right_of (is_built c) (list_all is_built s) h) (neither_right (is_markup c) (list_any is_markup s) k))
 
 -- what is spelled by a text
@@ -265,28 +265,28 @@ spelled_joined (spells_element full inner more) = both (spelled_joined inner) (s
 spelled_plain : {n : Nodes} {t : List ℕ} → Spells n t → list_all is_built t ≡ true → has_plain n ≡ true
 spelled_plain spells_nothing h = refl
 spelled_plain (spells_text {c} {s} {rest} {t} plain alone more) h =
-  let parts = sym (list_all-append is_built (c ∷ s) t) ∙ h in
-  both (plain-built (c ∷ s) (left_of (list_all is_built (c ∷ s)) (list_all is_built t) parts) plain)
+    let parts = sym (list_all-append is_built (c ∷ s) t) ∙ h in
+    both (plain-built (c ∷ s) (left_of (list_all is_built (c ∷ s)) (list_all is_built t) parts) plain)
     (spelled_plain more (right_of (list_all is_built (c ∷ s)) (list_all is_built t) parts))
 spelled_plain (spells_empty {e} {rest} {t} empty more) h =
-  let parts = sym (list_all-append is_built (empty_tag_of e) t) ∙ h in
-  spelled_plain more (right_of (list_all is_built (empty_tag_of e)) (list_all is_built t) parts)
+    let parts = sym (list_all-append is_built (empty_tag_of e) t) ∙ h in
+    spelled_plain more (right_of (list_all is_built (empty_tag_of e)) (list_all is_built t) parts)
 spelled_plain (spells_element {e} {kids} {rest} {u} {t} full inner more) h =
-  let parts = sym (list_all-append is_built (start_tag_of e) (u ++ (end_tag_of e ++ t))) ∙ h in
-  let inside = right_of (list_all is_built (start_tag_of e)) (list_all is_built (u ++ (end_tag_of e ++ t))) parts in
-  let split = sym (list_all-append is_built u (end_tag_of e ++ t)) ∙ inside in
-  let behind = right_of (list_all is_built u) (list_all is_built (end_tag_of e ++ t)) split in
-  let last = sym (list_all-append is_built (end_tag_of e) t) ∙ behind in
-  both (spelled_plain inner (left_of (list_all is_built u) (list_all is_built (end_tag_of e ++ t)) split))
+    let parts = sym (list_all-append is_built (start_tag_of e) (u ++ (end_tag_of e ++ t))) ∙ h in
+    let inside = right_of (list_all is_built (start_tag_of e)) (list_all is_built (u ++ (end_tag_of e ++ t))) parts in
+    let split = sym (list_all-append is_built u (end_tag_of e ++ t)) ∙ inside in
+    let behind = right_of (list_all is_built u) (list_all is_built (end_tag_of e ++ t)) split in
+    let last = sym (list_all-append is_built (end_tag_of e) t) ∙ behind in
+    both (spelled_plain inner (left_of (list_all is_built u) (list_all is_built (end_tag_of e ++ t)) split))
     (spelled_plain more (right_of (list_all is_built (end_tag_of e)) (list_all is_built t) last))
 
 -- a good fragment is its own purification, where it has one
 pub purified-good : (input text : List ℕ) → IsGood input → purified input ≡ Some text → text ≡ input
 purified-good input text g e =
-  let m = marks_of_purified input text e in
-  let well = marks-well input m.marks m.read in
-  let built = ap (list_all is_built) (sym (spelled_by-marks_of input m.marks m.read)) ∙ built-spelled_by m.marks well in
-  let tree : IsClosedTree g.nodes = record { sound = spelled_sound g.spelled; joined = spelled_joined g.spelled; plain = spelled_plain g.spelled built; valid = g.valid } in
-  let own : purified input ≡ Some input = subst (λ (x : List ℕ). purified x ≡ Some x) (spelling-spelled g.spelled) (purified-closed_tree g.nodes tree) in
-  let same : Some text ≡ Some input = sym e ∙ own in
-  let out : text ≡ input = cc in out
+    let m = marks_of_purified input text e in
+    let well = marks-well input m.marks m.read in
+    let built = ap (list_all is_built) (sym (spelled_by-marks_of input m.marks m.read)) ∙ built-spelled_by m.marks well in
+    let tree : IsClosedTree g.nodes = record { sound = spelled_sound g.spelled; joined = spelled_joined g.spelled; plain = spelled_plain g.spelled built; valid = g.valid } in
+    let own : purified input ≡ Some input = subst (λ (x : List ℕ). purified x ≡ Some x) (spelling-spelled g.spelled) (purified-closed_tree g.nodes tree) in
+    let same : Some text ≡ Some input = sym e ∙ own in
+    let out : text ≡ input = cc in out

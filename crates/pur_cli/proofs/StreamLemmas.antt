@@ -1,4 +1,4 @@
-use Rattle.std.proofs.Common.{◌≡◌, ℕ, ◌+◌, ◌-◌, ◌<◌, ◌≤◌, min, List, ◌++◌, length, take, drop, Option, Some, None, Result, Ok, Err, OnOk, OnErr, IfSome, refl, ap, sym, ◌∙◌, arith, append_assoc, length-append, length-drop, subst}
+use Rattle.std.proofs.Common.{◌≡◌, ℕ, ◌+◌, ◌-◌, ◌≤◌, min, List, ◌++◌, length, take, drop, Option, Some, None, Result, Ok, Err, OnOk, OnErr, IfSome, refl, ap, sym, ◌∙◌, arith, append_assoc, length-append, length-drop, subst}
 use Rattle.std.proofs.Math.Seq.{take-add}
 use Rattle.std.proofs.lemmas.List.{take_rest, take_all, length-take-le, length-take}
 use Rattle.pur_io.specs.Taken.{taken_more}
@@ -15,9 +15,9 @@ taken_twice (Some x) a b = ap Some (append_assoc x a b)
 pub taken_step : (before now after : Option (List ℕ)) (text : List ℕ) (at n : ℕ) → now ≡ taken_more before (take at text)
     → after ≡ taken_more now (take n (take (length text - at) (drop at text))) → after ≡ taken_more before (take (at + n) text)
 taken_step before now after text at n p q =
-  q ∙ ap (λ o. taken_more o (take n (take (length text - at) (drop at text)))) p
-  ∙ taken_twice before (take at text) (take n (take (length text - at) (drop at text)))
-  ∙ ap (taken_more before) (ap (λ r. take at text ++ take n r) (take_rest text at) ∙ sym (take-add at n text))
+    q ∙ ap (λ o. taken_more o (take n (take (length text - at) (drop at text)))) p
+    ∙ taken_twice before (take at text) (take n (take (length text - at) (drop at text)))
+    ∙ ap (taken_more before) (ap (λ r. take at text ++ take n r) (take_rest text at) ∙ sym (take-add at n text))
 
 -- however writing ended, a front of the text was taken
 pub took_some : {T E : Type 0} (r : Result T E) (before after : Option (List ℕ)) (text : List ℕ)
@@ -33,17 +33,18 @@ pub read_step : (texts : Option (List (Name × List ℕ))) (chosen : Option Name
     → IfSome texts (λ ts. ReadSoFar (text_named ts None) next new)
 read_step None chosen place next n bytes into new c m e old step = tt
 read_step (Some ts) chosen place next n bytes into new c m e old step =
-  let text = text_named ts None in
-  let s : ReadsAt text place next n into = subst (λ (o : Option Name). ReadsAt (text_chosen ts o) place next n into) c step in
-  let size : length new ≡ length bytes + n = ap length e ∙ omega (arith, length-append bytes (take n into), length-take-le n into m) in
-  record {
-    here = omega (arith, s.next_place, old.here, size);
-    front = e ∙ ap (λ x. x ++ take n into) old.front ∙ ap (λ x. take (length bytes) text ++ x) (s.bytes ∙ ap (λ k. take n (drop k text)) old.here)
-      ∙ sym (take-add (length bytes) n text) ∙ ap (λ k. take k text) (sym size);
-    within = omega (arith, size, s.within, length-drop place text, old.here, old.within) }
+    let text = text_named ts None in
+    let s : ReadsAt text place next n into = subst (λ (o : Option Name). ReadsAt (text_chosen ts o) place next n into) c step in
+    let size : length new ≡ length bytes + n = ap length e ∙ omega (arith, length-append bytes (take n into), length-take-le n into m) in
+    record {
+      here = omega (arith, s.next_place, old.here, size);
+      front = e ∙ ap (λ x. x ++ take n into) old.front ∙ ap (λ x. take (length bytes) text ++ x) (s.bytes ∙ ap (λ k. take n (drop k text)) old.here)
+          ∙ sym (take-add (length bytes) n text) ∙ ap (λ k. take k text) (sym size);
+      within = omega (arith, size, s.within, length-drop place text, old.here, old.within);
+    }
 
 -- no more is read than one byte past the limit
 pub read_small : (bytes into new buffer : List ℕ) (n want room : ℕ) → new ≡ bytes ++ take n into → n ≤ length into
     → length into ≡ length (take want buffer) → want ≡ min (1048577 - length bytes) room → length bytes ≤ 1048576 → length new ≤ 1048577
 read_small bytes into new buffer n want room e m size w small =
-  omega (arith, ap length e, length-append bytes (take n into), length-take-le n into m, length-take want buffer)
+    omega (arith, ap length e, length-append bytes (take n into), length-take-le n into m, length-take want buffer)

@@ -1,6 +1,6 @@
 -- Closing: tags are put where they were left out, so that a `p` never stands in a `p` and each `p` ends
 -- (the second strategy of HTML Purifier, for the elements `p` and `br`).
-use Rattle.std.specs.Prelude.{ℕ, Bool, true, false, List, [], ◌∷◌, ◌++◌, length, nat_lt}
+use Rattle.std.specs.Prelude.{Bool, true, false, List, [], ◌∷◌, ◌++◌, length, nat_lt}
 use Rattle.pur_lexer.specs.Marks.{PlainMark, text_mark, open_mark, close_mark, break_mark}
 use Rattle.pur_tree.specs.declared.element.Element.{Element}
 use Rattle.pur_tree.specs.declared.element.Element.TheVariants.{P, Br}

@@ -1,6 +1,5 @@
 -- What a good fragment is: one spelling, of valid nodes.
 use Rattle.std.specs.Prelude.{ℕ, ◌≡◌, List, Bool, true, false, not, ◌&&◌}
-use Rattle.pur_tree.specs.declared.element.Element.{Element}
 use Rattle.pur_tree.specs.declared.element.Element.TheVariants.{P, Br}
 use Rattle.pur_tree.specs.Nodes.{Nodes, no_nodes, text_first, elem_first, has_no_nodes}
 use Rattle.pur_tree.specs.Spelling.{Spells}

@@ -7,10 +7,9 @@ ghost use Rattle.pur_tree.specs.Image.{nodes_of};
 ghost use Rattle.pur_tree.specs.Tokens.{Token, joined, IsTreeOf};
 ghost use Rattle.pur_cli.specs.Closing.{step, open_elements, ending, closed, is_some_mark};
 
-use std::alloc::{AllocError, Global};
-
 use pur_lexer::Mark;
 use pur_tree::{Builder, Element, Forest};
+use std::alloc::{AllocError, Global};
 
 // The forest of the marks: a start tag ends an open paragraph first, an end tag without one is dropped,
 // and at the end all is closed.

@@ -2,12 +2,10 @@
 ghost use Rattle.std.specs.Prelude.{◌≡◌, IfOk, option_map};
 ghost use Rattle.pur_cli.specs.Purified.{purified};
 
-use std::alloc::{AllocError, Global};
-
-use pur_lexer::read_marks;
-
 use crate::closing::close;
 use crate::writing::write;
+use pur_lexer::read_marks;
+use std::alloc::{AllocError, Global};
 
 // The purification of the input; none where the input isn't built.
 pub fn purify(alloc: Global, input: &[u8]) -> Result<Option<Vec<u8>>, AllocError>

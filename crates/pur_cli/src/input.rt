@@ -4,9 +4,8 @@ ghost use Rattle.pur_io.specs.Faults.{Rose};
 ghost use Rattle.pur_io.specs.Texts.{text_named};
 ghost use Rattle.pur_cli.specs.Limits.{input_limit};
 
-use std::alloc::{AllocError, Global};
-
 use pur_io::{Failed, Shelf};
+use std::alloc::{AllocError, Global};
 
 /// The most bytes that an input may have.
 pub const INPUT_LIMIT: usize = 1_048_576;
@@ -56,7 +55,11 @@ fn piece_buffer(alloc: Global) -> Result<Vec<u8>, AllocError>
 }
 
 // All of the text that was chosen last, of which nothing was read yet, by way of the buffer.
-fn read_chosen<H: Shelf>(alloc: Global, shelf: &mut H, buffer: &mut [u8]) -> Result<Vec<u8>, ReadFault>
+fn read_chosen<H: Shelf>(
+    alloc: Global,
+    shelf: &mut H,
+    buffer: &mut [u8],
+) -> Result<Vec<u8>, ReadFault>
     requires room { 0 < length buffer.old }
     requires chosen { H.chosen shelf.old ≡ Some None }
     requires start { H.place shelf.old ≡ 0 }

@@ -4,17 +4,14 @@ ghost use Rattle.pur_cli.specs.Laws.{PurifiedIsGood, GoodIsUnchanged, TwiceIsOnc
 /// Every purification is a good fragment.
 pub fn purified_is_good()
     ensures { PurifiedIsGood }
-{
-}
+{}
 
 /// A good fragment is its own purification, where it has one.
 pub fn good_is_unchanged()
     ensures { GoodIsUnchanged }
-{
-}
+{}
 
 /// The purification of a purification is itself.
 pub fn twice_is_once()
     ensures { TwiceIsOnce }
-{
-}
+{}

@@ -1,3 +1,6 @@
+//! The program as one call over the world outside: it reads standard input, purifies it, and writes the
+//! fragment. So far the filter knows text, `p` and `br`; `specs/` says what the purification of an input
+//! is, when a fragment is good, and which status a run ends with.
 #![tactic(auto)]
 
 mod closing;

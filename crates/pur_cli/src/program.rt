@@ -9,16 +9,23 @@ ghost use Rattle.pur_cli.specs.Purified.{purified};
 ghost use Rattle.pur_cli.specs.Statuses.{code_of, answer_of, answer_to, TookLine, TookWholeLine};
 ghost use Rattle.pur_cli.specs.Writing.{TookFront};
 
-use std::alloc::Global;
-
-use pur_io::{Failed, Shelf, Sink};
-
 use crate::engine::purify;
 use crate::input::{ReadFault, read_input};
 use crate::output::{complain, write_all};
 use crate::status::Status;
+use pur_io::{Failed, Shelf, Sink};
+use std::alloc::Global;
 
-/// Runs the program.
+/// Runs the program: `purify` with these words of its command line, which don't include its own name.
+///
+/// With no words it reads standard input from the shelf, at most 1,048,576 bytes, and writes its
+/// purification to `out`: the fragment in which each `p` ends before the next begins, spelled in one way.
+/// Any word is refused. The answer is the status that the program ends with (`Status`), and its line is
+/// written to `err`; a fault of `err` changes no status. The whole text is computed before the first write
+/// to `out`, and from there on no memory is taken.
+///
+/// Clauses on texts hold where the shelf tells its texts and the streams tell what they take, as those in
+/// memory do. Want of memory is the one answer without a cause.
 pub fn run<H: Shelf, O: Sink, E: Sink>(
     alloc: Global,
     words: &[String],
@@ -31,7 +38,7 @@ pub fn run<H: Shelf, O: Sink, E: Sink>(
     ensures words { (result ≡ code_of Status.BadCommandLine) ↔ (0 < length words.now) }
     ensures answered { ¬ Rose (H.faults shelf.old) (H.faults shelf.new) → ¬ Rose (O.faults out.old) (O.faults out.new) →
         IfSome (H.texts shelf.old) (λ texts.
-            (result ≡ code_of Status.OutOfMemory) ⊎ (result ≡ code_of (answer_of words.now (text_named texts None)).status)) }
+        (result ≡ code_of Status.OutOfMemory) ⊎ (result ≡ code_of (answer_of words.now (text_named texts None)).status)) }
 
     // What each status says of the input.
     ensures done { result ≡ code_of Status.Done → IfSome (H.texts shelf.old) (λ texts.

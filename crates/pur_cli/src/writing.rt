@@ -5,9 +5,8 @@ ghost use Rattle.pur_tree.specs.Image.{node_before, nodes_of};
 ghost use Rattle.pur_tree.specs.Nodes.{Nodes, elem_first};
 ghost use Rattle.pur_tree.specs.Spelling.{spelling_of};
 
-use std::alloc::{AllocError, Global};
-
 use pur_tree::{Elem, Element, Forest, Node};
+use std::alloc::{AllocError, Global};
 
 // The spelling of a forest.
 pub fn write(alloc: Global, forest: &Forest) -> Result<Vec<u8>, AllocError>

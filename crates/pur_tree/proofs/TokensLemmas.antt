@@ -83,7 +83,7 @@ joined-tokens (elem_first e k f) x j s m =
 pub joined-tree : (f : Nodes) (ts : List Token) → is_joined f ≡ true → is_sound f ≡ true → tokens_of_nodes f ≡ ts → joined ts ≡ ts
 joined-tree f ts j s e =
     rw (← e)
-        (ap joined (sym (append-nil (tokens_of_nodes f))) ∙ joined-tokens f [] j s (never (ends_with_text f)) ∙ append-nil (tokens_of_nodes f))
+    (ap joined (sym (append-nil (tokens_of_nodes f))) ∙ joined-tokens f [] j s (never (ends_with_text f)) ∙ append-nil (tokens_of_nodes f))
 
 -- two texts join what stands behind them one after the other
 join_token-twice : (s t : List ℕ) (x : List Token) → join_token (text_token (s ++ t)) x ≡ join_token (text_token s) (join_token (text_token t) x)

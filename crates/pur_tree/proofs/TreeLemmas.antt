@@ -45,7 +45,7 @@ tokens-in_front : (es : List Element) (a : List Token) (n m : Nodes) (outer : Li
     → tokens_of_levels es (record { here = n; outer = outer }) ≡ a ++ tokens_of_levels es (record { here = m; outer = outer })
 tokens-in_front [] a n m outer e = e
 tokens-in_front (d ∷ es) a n m outer e = ap (λ ts. ts ++ (end_token d ∷ tokens_of_levels es (record { here = first_level outer; outer = other_levels outer }))) e
-  ∙ append_assoc a (tokens_of_nodes m) (end_token d ∷ tokens_of_levels es (record { here = first_level outer; outer = other_levels outer }))
+    ∙ append_assoc a (tokens_of_nodes m) (end_token d ∷ tokens_of_levels es (record { here = first_level outer; outer = other_levels outer }))
 
 -- an element's tokens, where it isn't EMPTY
 tokens-element : (e : Element) (k n : Nodes) → is_empty_element e ≡ false
@@ -56,14 +56,14 @@ tokens-element e k n h = rw h (ap (λ ts. start_token e ∷ ts) (sym (append_ass
 pub tokens-levels : {es : List Element} {ts : List Token} → IsBalanced es ts → tokens_of_levels es (levels_of ts) ≡ ts
 tokens-levels balanced_nothing = refl
 tokens-levels (balanced_text {es} {s} {ts} more) =
-  tokens-in_front es (text_token s ∷ []) (text_first s (levels_of ts).here) (levels_of ts).here (levels_of ts).outer refl ∙ ap (λ x. text_token s ∷ x) (tokens-levels more)
+    tokens-in_front es (text_token s ∷ []) (text_first s (levels_of ts).here) (levels_of ts).here (levels_of ts).outer refl ∙ ap (λ x. text_token s ∷ x) (tokens-levels more)
 tokens-levels (balanced_empty {es} {e} {ts} h more) =
-  tokens-in_front es (empty_token e ∷ []) (elem_first e no_nodes (levels_of ts).here) (levels_of ts).here (levels_of ts).outer (rw h refl) ∙ ap (λ x. empty_token e ∷ x) (tokens-levels more)
+    tokens-in_front es (empty_token e ∷ []) (elem_first e no_nodes (levels_of ts).here) (levels_of ts).here (levels_of ts).outer (rw h refl) ∙ ap (λ x. empty_token e ∷ x) (tokens-levels more)
 tokens-levels (balanced_start {es} {e} {ts} h more) =
-  tokens-in_front es (start_token e ∷ (tokens_of_nodes (levels_of ts).here ++ (end_token e ∷ []))) (elem_first e (levels_of ts).here (first_level (levels_of ts).outer))
+    tokens-in_front es (start_token e ∷ (tokens_of_nodes (levels_of ts).here ++ (end_token e ∷ []))) (elem_first e (levels_of ts).here (first_level (levels_of ts).outer))
     (first_level (levels_of ts).outer) (other_levels (levels_of ts).outer) (tokens-element e (levels_of ts).here (first_level (levels_of ts).outer) h)
-  ∙ ap (λ x. start_token e ∷ x) (append_assoc (tokens_of_nodes (levels_of ts).here) (end_token e ∷ [])
-      (tokens_of_levels es (record { here = first_level (levels_of ts).outer; outer = other_levels (levels_of ts).outer })) ∙ tokens-levels more)
+    ∙ ap (λ x. start_token e ∷ x) (append_assoc (tokens_of_nodes (levels_of ts).here) (end_token e ∷ [])
+    (tokens_of_levels es (record { here = first_level (levels_of ts).outer; outer = other_levels (levels_of ts).outer })) ∙ tokens-levels more)
 tokens-levels (balanced_stop {es} {e} {ts} h more) = ap (λ x. end_token e ∷ x) (tokens-levels more)
 
 -- the tree of balanced tokens has these tokens
@@ -168,7 +168,7 @@ joined-nodes no_nodes x h = refl
 joined-nodes (text_first s n) x h =
     let apart = left_of (not (begins_with_text (tokens_of_nodes n ++ x))) (has_no_neighbours (tokens_of_nodes n ++ x)) h in
     both (ap not (starts-begins n x (not_true (begins_with_text (tokens_of_nodes n ++ x)) apart)))
-        (joined-nodes n x (right_of (not (begins_with_text (tokens_of_nodes n ++ x))) (has_no_neighbours (tokens_of_nodes n ++ x)) h))
+    (joined-nodes n x (right_of (not (begins_with_text (tokens_of_nodes n ++ x))) (has_no_neighbours (tokens_of_nodes n ++ x)) h))
 joined-nodes (elem_first e k n) x h =
     let inner = sym (neighbours-opening e ((tokens_of_nodes k ++ (closing_of e ++ tokens_of_nodes n)) ++ x)) ∙ h in
     let parts = ap has_no_neighbours (sym (append_assoc (tokens_of_nodes k) (closing_of e ++ tokens_of_nodes n) x)) ∙ inner in

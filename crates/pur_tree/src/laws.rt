@@ -24,5 +24,4 @@ pub fn has_one_tree()
 /// Tokens in which each start tag has its end tag have a tree.
 pub fn has_tree()
     ensures { HasTree }
-{
-}
+{}

@@ -13,6 +13,8 @@ mod element;
 mod forest;
 mod laws;
 mod node;
+#[cfg(test)]
+mod tests;
 
 pub use builder::Builder;
 pub use element::Element;

@@ -1,12 +1,11 @@
 //! The program `purify`: it hands the words of its command line and the real streams to `run`.
 #![tactic(auto)]
 
+use pur_cli::{Status, run};
+use pur_io::{FileShelf, StdSink};
 use std::env;
 use std::io::ErrorKind;
 use std::process::ExitCode;
-
-use pur_cli::{Status, run};
-use pur_io::{FileShelf, StdSink};
 
 // The status where the words can't be taken for another cause than want of memory, as where one isn't UTF-8.
 const NO_WORDS: u8 = 11;
@@ -26,7 +25,9 @@ fn main(rt: HostRuntime) -> ExitCode {
 fn words_of(rt: &HostRuntime) -> Result<Vec<String>, u8> {
     let all = match env::args(rt) {
         Ok(all) => all,
-        Err(error) if error.kind() == ErrorKind::OutOfMemory => return Err(Status::OutOfMemory.code()),
+        Err(error) if error.kind() == ErrorKind::OutOfMemory => return Err(
+            Status::OutOfMemory.code(),
+        ),
         Err(_) => return Err(NO_WORDS),
     };
     let mut words: Vec<String> = match all.collect(rt.alloc()) {

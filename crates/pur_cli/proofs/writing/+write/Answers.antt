@@ -7,16 +7,16 @@ use Rattle.pur_cli.proofs.writing.+write.Goals as goal
 
 pub push_elem-returns : goal.push_elem-returns
 push_elem-returns t c =
-  element-written c.args.elem.now.name (nodes_of c.args.elem.now.children.items) c.args.out.now.items c.push_tag-2.new.out.items c.push_nodes.new.out.items c.push_tag-3.new.out.items
+    element-written c.args.elem.now.name (nodes_of c.args.elem.now.children.items) c.args.out.now.items c.push_tag-2.new.out.items c.push_nodes.new.out.items c.push_tag-3.new.out.items
     (sym c.if-is_empty.ensures) c.in_ok-push_tag-2.ensures (let w = rw c.as_slice.ensures.value at c.in_ok-push_nodes.ensures in w) c.in_ok-push_tag-3.ensures
 
 pub push_node-returns-in_ok-extend_from_slice-in-Text : goal.push_node-returns-in_ok-extend_from_slice-in-Text
 push_node-returns-in_ok-extend_from_slice-in-Text t c rest =
-  let bytes : c.extend_from_slice.new.self.items ≡ c.args.out.now.items ++ string_bytes c.in-Text.text =
+    let bytes : c.extend_from_slice.new.self.items ≡ c.args.out.now.items ++ string_bytes c.in-Text.text =
     c.in_ok-extend_from_slice-in-Text.ensures.items ∙ ap (λ x. c.args.out.now.items ++ x) (c.as_bytes.ensures.value ∙ c.as_str.ensures.value) in
-  rw (c.in-Text.is, before_text c.in-Text.text rest)
+    rw (c.in-Text.is, before_text c.in-Text.text rest)
     (text-written (string_bytes c.in-Text.text) c.args.out.now.items c.extend_from_slice.new.self.items (IsUtf8-string_bytes c.in-Text.text) bytes rest)
 
 pub push_node-returns-in_ok-push_elem-in-Elem : goal.push_node-returns-in_ok-push_elem-in-Elem
-push_node-returns-in_ok-push_elem-in-Elem t c rest = 
-  rw (c.in-Elem.is, before_elem c.in-Elem.elem.name c.in-Elem.elem.children rest) (c.in_ok-push_elem-in-Elem.ensures rest)
+push_node-returns-in_ok-push_elem-in-Elem t c rest =
+    rw (c.in-Elem.is, before_elem c.in-Elem.elem.name c.in-Elem.elem.children rest) (c.in_ok-push_elem-in-Elem.ensures rest)

@@ -20,8 +20,8 @@ closing-preserved c =
 
 pub returns-clause-settled : goal.returns-clause-settled
 returns-clause-settled c =
-  let os = c.self.inside.outer.items in
-  let kids = children_of (os, c.self.inside.children.items, chars (string_bytes c.self.inside.text)) in
-  rw (← c.closing.invariant, ← c.self.view_is)
+    let os = c.self.inside.outer.items in
+    let kids = children_of (os, c.self.inside.children.items, chars (string_bytes c.self.inside.text)) in
+    rw (← c.closing.invariant, ← c.self.view_is)
     (joined-tree (finished os kids) _ c.self.invariant.fits.joined c.self.invariant.fits.sound
-      (tokens-finished os kids ∙ sym (append_assoc (written_before os) (tokens_of_nodes kids) (closings_of (opened_by os)))))
+    (tokens-finished os kids ∙ sym (append_assoc (written_before os) (tokens_of_nodes kids) (closings_of (opened_by os)))))
