@@ -40,6 +40,10 @@ pub fn run<H: Shelf, O: Sink, E: Sink>(
         IfSome (H.texts shelf.old) (λ texts.
         (result ≡ code_of Status.OutOfMemory) ⊎ (result ≡ code_of (answer_of words.now (text_named texts None)).status)) }
 
+    ensures refused { ¬ Rose (H.faults shelf.old) (H.faults shelf.new) → IfSome (H.texts shelf.old) (λ texts.
+        (answer_of words.now (text_named texts None)).status ≢ Status.Done →
+        (result ≡ code_of Status.OutOfMemory) ⊎ (result ≡ code_of (answer_of words.now (text_named texts None)).status)) }
+
     // What each status says of the input.
     ensures done { result ≡ code_of Status.Done → IfSome (H.texts shelf.old) (λ texts.
         (answer_of words.now (text_named texts None)).status ≡ Status.Done) }
