@@ -1,0 +1,23 @@
+# make          builds the program, build/purify
+# make example  builds it and runs it on an example
+# make test     all that a change must pass
+# make install  puts the program into $(PREFIX)/bin
+RT ?= rt
+PREFIX ?= /usr/local
+
+.PHONY: all example test install
+all: build/purify
+
+build/purify: crates.txt $(shell find crates -name out -prune -o -type f -print)
+	cd crates/purify && $(RT) run < stdin > /dev/null
+	mkdir -p build
+	cp crates/purify/out/purify build/purify
+
+example: build/purify
+	./build/purify < examples/comment.html
+
+test:
+	bash .ci/run
+
+install: build/purify
+	install -D -m 755 build/purify $(DESTDIR)$(PREFIX)/bin/purify
