@@ -1,5 +1,5 @@
 -- What the parts of a text are in which a reference is looked for; bytes and characters alike.
-use Rattle.std.specs.Prelude.{◌≡◌, ◌⊎◌, ℕ, Bool, List, ◌∷◌, ◌++◌, ◌==◌, ◌&&◌, not, IsTrue}
+use Rattle.std.specs.Prelude.{◌≡◌, ◌⊎◌, ℕ, Bool, List, ◌∷◌, ◌++◌, ◌==◌, ◌||◌, not, IsTrue}
 use Rattle.std.specs.List.{list_all}
 
 -- not an `&`
@@ -8,7 +8,7 @@ is_plain c = not (c == 0x26)
 
 -- neither an `&` nor a `;`
 abbrev pub is_inside : ℕ → Bool
-is_inside c = is_plain c && not (c == 0x3B)
+is_inside c = not (c == 0x26 || c == 0x3B)
 
 -- an `&` comes before any `;`
 pub record IsCutOff (text : List ℕ) : Type 0 where

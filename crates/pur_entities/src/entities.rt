@@ -1,7 +1,8 @@
 //! The named characters of XHTML 1.0.
-ghost use Rattle.std.specs.Prelude.{◌≡◌};
+ghost use Rattle.std.specs.Prelude.{◌≡◌, map, IsTrue};
 ghost use Rattle.std.specs.Str.{chars};
 ghost use Rattle.pur_entities.specs.Entities.{named_character};
+ghost use Rattle.pur_entities.specs.Tables.{is_rising, is_right, is_whole};
 
 // Each name and its character, in the order of the names' bytes.
 static ENTITIES: [(&str, char); 253] = [
@@ -265,8 +266,18 @@ static ENTITIES: [(&str, char); 253] = [
 pub fn lookup(name: &str) -> Option<char>
     ensures { result ≡ named_character (chars name.now) }
 {
-    match ENTITIES.binary_search_by_key(&name, |entity| entity.0) {
-        Ok(place) => Some(ENTITIES[place].1),
+    find(&ENTITIES, name)
+}
+
+/// The character of the row with this name.
+fn find(table: &[(&str, char)], name: &str) -> Option<char>
+    requires rising { IsTrue (is_rising (map (λ row. (row.0.now, row.1)) table.now)) }
+    requires right { IsTrue (is_right (map (λ row. (row.0.now, row.1)) table.now)) }
+    requires whole { IsTrue (is_whole (map (λ row. (row.0.now, row.1)) table.now)) }
+    ensures { result ≡ named_character name.now }
+{
+    match table.binary_search_by_key(&name, |row| row.0) {
+        Ok(place) => Some(table[place].1),
         Err(_) => None,
     }
 }

@@ -1,0 +1,4 @@
+pub mod CutLemmas
+pub mod NumeralLemmas
+pub mod ReferenceLemmas
+pub mod TableLemmas
