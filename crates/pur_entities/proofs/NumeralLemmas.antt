@@ -1,10 +1,10 @@
 -- Numbers that stop growing at the greatest of the code's type.
-use Rattle.std.proofs.Common.{◌≡◌, ◌⊎◌, ℕ, zero, suc, ◌+◌, ◌-◌, ◌*◌, ◌^◌, ◌<◌, ◌≤◌, Bool, true, false, List, [], ◌∷◌, length, take, drop, get_or, Some, None, min, filter, refl, sym, ap, subst, ◌∙◌, arith, ⊎_elim, add-one}
+use Rattle.std.proofs.Common.{◌≡◌, ◌⊎◌, ℕ, zero, suc, ◌+◌, ◌-◌, ◌*◌, ◌^◌, ◌<◌, ◌≤◌, Bool, true, false, List, [], ◌∷◌, length, take, drop, get_or, Some, None, min, filter, refl, sym, ap, subst, ◌∙◌, arith, ⊎_elim, add-one, drop_of_length-le}
 use Rattle.std.specs.Prelude.{◌==◌, ◌&&◌, not, nat_lt, Option, if◌then◌else◌, option_map}
 use Rattle.std.specs.Char.{digit_value}
 use Rattle.std.specs.List.{list_all}
 use Rattle.std.specs.Str.Parse.{digits_value_after}
-use Rattle.std.proofs.Math.Seq.{drop-cons, drop-length}
+use Rattle.std.proofs.Math.Seq.{drop-cons}
 use Rattle.std.proofs.lemmas.Bool.{cases_Bool, cases_lt, cond-true, cond-false, and_parts, both_ways}
 use Rattle.std.proofs.lemmas.Bool.Decides.{nat_tests}
 use Rattle.pur_text.specs.Characters.{is_allowed}
@@ -53,9 +53,9 @@ digit_read radix n c text least is =
     rw digit (ap (λ m. if list_all (is_digit radix) text then Some m else None) value)
 
 -- the digits at a place and behind it
-pub digit_read_at : (radix n i b more whole : ℕ) (text : List ℕ) → 2 ≤ radix → i < length text → b ≡ get_or text i 0 → digit_value b < radix
+pub digit_read_at : (radix n i b more : ℕ) (text : List ℕ) → 2 ≤ radix → i < length text → b ≡ get_or text i 0 → digit_value b < radix
     → more ≡ cut_off (cut_off (n * radix) + digit_value b) → (o : Option ℕ) → numeral_after radix n (drop i text) ≡ o → numeral_after radix more (drop (i + 1) text) ≡ o
-digit_read_at radix n i b more whole text least within is digit more_is o e =
+digit_read_at radix n i b more text least within is digit more_is o e =
     let up : suc i ≡ i + 1 = omega arith in
     let front : drop i text ≡ b ∷ drop (i + 1) text = drop-cons text i 0 within ∙ ap (λ c. c ∷ drop (suc i) text) (sym is) ∙ ap (λ k. b ∷ drop k text) up in
     ap (λ m. numeral_after radix m (drop (i + 1) text)) more_is ∙ digit_read radix n b (drop (i + 1) text) least digit ∙ ap (numeral_after radix n) (sym front) ∙ e
@@ -70,10 +70,10 @@ no_digit_at radix n i b text within is large o e =
     sym none ∙ ap (numeral_after radix n) (sym front) ∙ e
 
 -- all digits are read
-pub digits_end : (radix n : ℕ) (text : List ℕ) → n < 2 ^ 32 → (o : Option ℕ) → numeral_after radix n (drop (length text) text) ≡ o → Some n ≡ o
-digits_end radix n text small o e =
+pub digits_end : (radix n i : ℕ) (text : List ℕ) → n ≤ greatest → length text ≤ i → (o : Option ℕ) → numeral_after radix n (drop i text) ≡ o → Some n ≡ o
+digits_end radix n i text small past o e =
     let same : n ≡ cut_off n = omega arith in
-    ap Some same ∙ ap (numeral_after radix n) (sym (drop-length text)) ∙ e
+    ap Some same ∙ ap (numeral_after radix n) (sym (drop_of_length-le text past)) ∙ e
 
 -- the whole, by the definition
 pub numeral_whole : (radix : ℕ) (text : List ℕ) → 0 < length text → numeral_after radix 0 text ≡ option_map cut_off (numeral radix text)

@@ -1,6 +1,9 @@
 -- How a text with references is read from its front; laws of reading.
-use Rattle.std.proofs.Common.{◌≡◌, ◌⊎◌, ℕ, zero, suc, ◌+◌, ◌-◌, ◌<◌, ◌≤◌, Bool, true, false, List, [], ◌∷◌, ◌++◌, length, take, drop, filter, get_or, Some, None, IsUtf8, codes, refl, sym, ap, subst, ◌∙◌, arith, ⊎_elim, append_assoc, append-nil, drop_at}
-use Rattle.std.specs.Prelude.{◌==◌, ◌&&◌, ◌||◌, not, nat_lt, nat_eq, Option, if◌then◌else◌, option_map}
+use Rattle.std.proofs.Common.{◌≡◌, ◌⊎◌, ℕ, zero, suc, ◌+◌, ◌-◌, ◌<◌, ◌≤◌, Bool, true, false, List, [], ◌∷◌, ◌++◌, length, take, drop, filter, get_or, Some, None, IsUtf8, codes, refl, sym, ap, subst, ◌∙◌, arith, ⊎_elim, append_assoc, append-nil, lit<}
+use Rattle.std.specs.Prelude.{◌==◌, ◌&&◌, ◌||◌, not, nat_lt, nat_eq, Option, if◌then◌else◌, option_map, IsTrue, ◌≢◌}
+use Rattle.std.proofs.lemmas.Option.{none-some, same_Some}
+use Rattle.std.proofs.lemmas.Str.{chars-append, chars-nil}
+use Rattle.pur_entities.proofs.NumeralLemmas.{cut_off, allowed_cut_off}
 use Rattle.std.specs.Char.{digit_value}
 use Rattle.std.specs.Cmp.Lexicographic.{bytes_decides}
 use Rattle.std.specs.List.{list_all, flat_map}
@@ -12,7 +15,7 @@ use Rattle.std.proofs.lemmas.List.Folds.{list_all-append}
 use Rattle.pur_text.specs.Characters.{is_allowed}
 use Rattle.pur_entities.specs.Cuts.{is_plain, is_inside, IsCutOff, HasNoBody}
 use Rattle.pur_entities.specs.Entities.{Entity, latin_1, special, greek, other_symbols, entities, character_in, named_character}
-use Rattle.pur_entities.specs.References.{is_digit, numeral, is_numeric, is_hexadecimal, number_meant, before_semicolon, Piece, character_piece, reference_piece, piece_with, ampersand_piece, first_piece, decoded_behind, decoded, escape, escaped}
+use Rattle.pur_entities.specs.References.{is_digit, numeral, is_hexadecimal, number_written, number_meant, before_semicolon, Piece, character_piece, reference_piece, piece_with, ampersand_piece, first_piece, decoded_behind, decoded, escape, escaped}
 use Rattle.pur_entities.proofs.CutLemmas.{is_ascii, same_chars, chars_ascii, text_passes, chars_around}
 
 -- ---- what the body of a reference can't have
@@ -76,42 +79,47 @@ module _ (q : ℕ → Bool) (passes : PassesBodies q) where
       by true is fails = fails
       by false is fails = absurd (both_ways _ refl is)
 
-  no_decimal : (body : List ℕ) → list_all q body ≡ false → is_numeric body ≡ true → numeral 10 (drop 1 body) ≡ None
-  no_decimal [] fails is = absurd (both_ways _ fails refl)
-  no_decimal (a ∷ text) fails is =
-      let sign : a ≡ 0x23 = eqb-true a 0x23 is in
-      no_numeral 10 text (omega arith) (tail_fails a text (ap q sign ∙ passes.number_sign) fails)
-
-  no_hexadecimal : (body : List ℕ) → list_all q body ≡ false → is_hexadecimal body ≡ true → numeral 16 (drop 2 body) ≡ None
-  no_hexadecimal [] fails is = absurd (both_ways _ fails refl)
-  no_hexadecimal (a ∷ []) fails is =
-      let sign : a ≡ 0x23 = eqb-true a 0x23 (and_parts _ _ is).0 in
-      absurd (both_ways _ (tail_fails a [] (ap q sign ∙ passes.number_sign) fails) refl)
-  no_hexadecimal (a ∷ b ∷ text) fails is =
-      let both = and_parts _ _ is in
-      let sign : a ≡ 0x23 = eqb-true a 0x23 both.0 in
-      let x : q b ≡ true = ⊎_elim
-      (λ (small : (b == 0x78) ≡ true). ap q (eqb-true b 0x78 small) ∙ passes.small_x)
-      (λ (capital : (b == 0x58) ≡ true). ap q (eqb-true b 0x58 capital) ∙ passes.capital_x)
-      (or_cases _ _ both.1) in
-      no_numeral 16 text (omega arith) (tail_fails b text x (tail_fails a (b ∷ text) (ap q sign ∙ passes.number_sign) fails))
+  nothing_written : (text : List ℕ) → list_all q text ≡ false → number_written text ≡ None
+  nothing_written [] fails = absurd (both_ways _ fails refl)
+  nothing_written (a ∷ text) fails = ⊎_elim
+      (λ (hexadecimal : is_hexadecimal (a ∷ text) ≡ true).
+      let x : q a ≡ true = ⊎_elim
+      (λ (small : (a == 0x78) ≡ true). ap q (eqb-true a 0x78 small) ∙ passes.small_x)
+      (λ (capital : (a == 0x58) ≡ true). ap q (eqb-true a 0x58 capital) ∙ passes.capital_x)
+      (or_cases _ _ hexadecimal) in
+      cond-true _ _ _ hexadecimal ∙ no_numeral 16 text (omega arith) (tail_fails a text x fails))
+      (λ (decimal : is_hexadecimal (a ∷ text) ≡ false). cond-false _ _ _ decimal ∙ no_numeral 10 (a ∷ text) (omega arith) fails)
+      (cases_Bool (is_hexadecimal (a ∷ text)))
 
   nothing_meant : (body : List ℕ) → list_all q body ≡ false → number_meant body ≡ None
   unfolding number_meant
-  nothing_meant body fails = ⊎_elim
-      (λ (hexadecimal : is_hexadecimal body ≡ true). cond-true _ _ _ hexadecimal ∙ no_hexadecimal body fails hexadecimal)
-      (λ (other : is_hexadecimal body ≡ false). cond-false _ _ _ other ∙ ⊎_elim
-      (λ (numeric : is_numeric body ≡ true). cond-true _ _ _ numeric ∙ no_decimal body fails numeric)
-      (λ (name : is_numeric body ≡ false). cond-false _ _ _ name ∙ unnamed body fails)
-      (cases_Bool (is_numeric body)))
-      (cases_Bool (is_hexadecimal body))
+  nothing_meant [] fails = absurd (both_ways _ fails refl)
+  nothing_meant (a ∷ text) fails = ⊎_elim
+      (λ (number : (a == 0x23) ≡ true).
+      let sign : q a ≡ true = ap q (eqb-true a 0x23 number) ∙ passes.number_sign in
+      cond-true _ _ _ number ∙ nothing_written text (tail_fails a text sign fails))
+      (λ (name : (a == 0x23) ≡ false). cond-false _ _ _ name ∙ unnamed (a ∷ text) fails)
+      (cases_Bool (a == 0x23))
 
--- an `&` fails such a test, and so does what isn't ASCII
+abbrev pub no_semicolon : ℕ → Bool
+no_semicolon c = not (c == 0x3B)
+
+-- an `&` fails such a test, a `;` too, and so does what isn't ASCII
 passes_plain : PassesBodies is_plain
 unfolding entities latin_1 special greek other_symbols
 passes_plain = record {
   names = refl;
   digits = λ c fails. grind (arith, nat_tests);
+  number_sign = refl;
+  small_x = refl;
+  capital_x = refl;
+}
+
+passes_no_semicolon : PassesBodies no_semicolon
+unfolding entities latin_1 special greek other_symbols
+passes_no_semicolon = record {
+  names = refl;
+  digits = λ c no. grind (arith, nat_tests);
   number_sign = refl;
   small_x = refl;
   capital_x = refl;
@@ -144,9 +152,6 @@ pub named_character-chars : (name : List ℕ) → IsUtf8 name → named_characte
 named_character-chars name is = same_meant named_character (unnamed is_ascii passes_ascii) name is
 
 -- ---- the body of a reference
-
-abbrev pub no_semicolon : ℕ → Bool
-no_semicolon c = not (c == 0x3B)
 
 -- it ends at the first `;`
 semicolon_found : (body rest : List ℕ) → list_all no_semicolon body ≡ true → before_semicolon (body ++ 0x3B ∷ rest) ≡ Some body
@@ -271,3 +276,189 @@ wide_inside c high = grind (arith, nat_tests)
 
 wide_plain : (c : ℕ) → 128 ≤ c → is_plain c ≡ true
 wide_plain c high = grind (arith, nat_tests)
+
+-- ---- what the code reads
+
+-- `before` and `behind` are those of the record
+pub no_body : (text : List ℕ) → HasNoBody text → IsUtf8 text → decoded (0x26 ∷ chars text) ≡ 0x26 ∷ decoded (chars text)
+no_body text none is = decoded-ampersand (chars text) (⊎_elim
+    (λ (cut : IsCutOff text).
+    ap ampersand_piece (ap chars cut.text_is ∙ chars_around cut.before cut.behind 0x26 cut.before_is_text cut.behind_is_text (lit< tt))
+    ∙ no_body_cut (chars cut.before) (chars cut.behind) (text_passes is_inside wide_inside cut.before cut.before_is_text cut.inside))
+    (λ (whole : IsTrue (list_all is_inside text)). no_body_whole (chars text) (text_passes is_inside wide_inside text is whole))
+    none)
+
+module _ (text body behind : List ℕ) (is_body : IsUtf8 body) (is_behind : IsUtf8 behind) (parts : text ≡ body ++ 0x3B ∷ behind)
+    (inside : list_all is_inside body ≡ true) where
+  parts_chars : chars text ≡ chars body ++ 0x3B ∷ chars behind
+  parts_chars = ap chars parts ∙ chars_around body behind 0x3B is_body is_behind (lit< tt)
+
+  body_ends : list_all no_semicolon (chars body) ≡ true
+  body_ends = passes_more is_inside no_semicolon inside_semicolon (chars body) (text_passes is_inside wide_inside body is_body inside)
+
+  pub reference_refused : None ≡ option_map cut_off (number_meant (chars body)) → decoded (0x26 ∷ chars text) ≡ 0x26 ∷ decoded (chars text)
+  reference_refused none = by (number_meant (chars body)) refl none
+    where
+      by : (o : Option ℕ) → number_meant (chars body) ≡ o → None ≡ option_map cut_off o → decoded (0x26 ∷ chars text) ≡ 0x26 ∷ decoded (chars text)
+      by None e none = decoded-ampersand (chars text) (ap ampersand_piece parts_chars ∙ no_reference (chars body) (chars behind) body_ends e)
+      by (Some number) e none = absurd (none-some (cut_off number) none)
+
+  pub reference_read : (n : ℕ) → Some n ≡ option_map cut_off (number_meant (chars body))
+      → filter is_allowed (n ∷ []) ++ decoded (chars behind) ≡ decoded (0x26 ∷ chars text)
+  reference_read n some = by (number_meant (chars body)) refl some
+    where
+      by : (o : Option ℕ) → number_meant (chars body) ≡ o → Some n ≡ option_map cut_off o → filter is_allowed (n ∷ []) ++ decoded (chars behind) ≡ decoded (0x26 ∷ chars text)
+      by None e some = absurd (none-some n (sym some))
+      by (Some number) e some =
+          let same : n ≡ cut_off number = same_Some n (cut_off number) some in
+          ap (λ m. filter is_allowed (m ∷ []) ++ decoded (chars behind)) same
+          ∙ ap (λ l. l ++ decoded (chars behind)) (allowed_cut_off number)
+          ∙ sym (decoded-reference (chars body) (chars behind) number body_ends e)
+          ∙ ap (λ t. decoded (0x26 ∷ t)) (sym parts_chars)
+
+-- an `&` was written
+pub ampersand_written : (before after text : List ℕ) → after ≡ before ++ 0x26 ∷ [] → 0x26 ∷ decoded text ≡ decoded (0x26 ∷ text)
+    → after ++ decoded text ≡ before ++ decoded (0x26 ∷ text)
+ampersand_written before after text after_is none =
+    ap (λ t. t ++ decoded text) after_is ∙ append_assoc before (0x26 ∷ []) (decoded text) ∙ ap (λ t. before ++ t) none
+
+-- nothing was read yet; a run was copied; all was read
+pub nothing_read : (output rest : List ℕ) → output ≡ [] → chars output ++ rest ≡ rest
+nothing_read output rest none = rw (none, chars-nil) refl
+
+pub run_copied : (output run behind rest more whole : List ℕ) → IsUtf8 output → IsUtf8 run → IsUtf8 behind → more ≡ output ++ run
+    → rest ≡ run ++ 0x26 ∷ behind → list_all is_plain run ≡ true → chars output ++ decoded (chars rest) ≡ whole
+    → chars more ++ decoded (0x26 ∷ chars behind) ≡ whole
+run_copied output run behind rest more whole is_output is_run is_behind more_is rest_is plain e =
+    let later = decoded (0x26 ∷ chars behind) in
+    let read : decoded (chars rest) ≡ chars run ++ later =
+    ap decoded (ap chars rest_is ∙ chars_around run behind 0x26 is_run is_behind (lit< tt))
+    ∙ decoded-plain (chars run) (0x26 ∷ chars behind) (text_passes is_plain wide_plain run is_run plain) in
+    ap (λ t. t ++ later) (ap chars more_is ∙ chars-append output run is_output)
+    ∙ append_assoc (chars output) (chars run) later
+    ∙ ap (λ t. chars output ++ t) (sym read) ∙ e
+
+pub all_read : (output rest more whole : List ℕ) → IsUtf8 output → IsUtf8 rest → more ≡ output ++ rest → list_all is_plain rest ≡ true
+    → chars output ++ decoded (chars rest) ≡ whole → chars more ≡ whole
+all_read output rest more whole is_output is_rest more_is plain e =
+    ap chars more_is ∙ chars-append output rest is_output
+    ∙ ap (λ t. chars output ++ t) (sym (decoded-same (chars rest) (text_passes is_plain wide_plain rest is_rest plain))) ∙ e
+
+-- the body begins with `#`, or doesn't
+pub number_behind : (body number : List ℕ) (n : Option ℕ) → IsUtf8 body → body ≡ 0x23 ∷ number → n ≡ option_map cut_off (number_written number)
+    → n ≡ option_map cut_off (number_meant (chars body))
+unfolding number_meant
+number_behind body number n is body_is e =
+    let meant : number_meant body ≡ number_written number = ap number_meant body_is in
+    e ∙ ap (option_map cut_off) (sym (number_meant-chars body is ∙ meant))
+
+not_numeric : (body : List ℕ) → ((rest : List ℕ) → body ≢ 0x23 ∷ rest) → number_meant body ≡ named_character body
+unfolding number_meant
+not_numeric [] other = refl
+not_numeric (c ∷ body) other = cond-false _ _ _ (ne_eqb c 0x23 (λ e. other body (ap (λ b. b ∷ body) e)))
+
+pub name_meant : (body : List ℕ) (n : Option ℕ) → IsUtf8 body → ((rest : List ℕ) → body ≢ 0x23 ∷ rest) → n ≡ option_map cut_off (named_character (chars body))
+    → n ≡ option_map cut_off (number_meant (chars body))
+name_meant body n is other e =
+    e ∙ ap (option_map cut_off) (named_character-chars body is ∙ sym (not_numeric body other) ∙ sym (number_meant-chars body is))
+
+-- ---- laws
+
+-- a body that means something has no `;`
+ended_by_semicolon : (body : List ℕ) (number : ℕ) → number_meant body ≡ Some number → list_all no_semicolon body ≡ true
+ended_by_semicolon body number e = ⊎_elim
+    (λ (yes : list_all no_semicolon body ≡ true). yes)
+    (λ (fails : list_all no_semicolon body ≡ false). absurd (none-some number (sym (nothing_meant no_semicolon passes_no_semicolon body fails) ∙ e)))
+    (cases_Bool (list_all no_semicolon body))
+
+-- a reference is read
+pub decoded-meant : (body rest : List ℕ) (number : ℕ) → number_meant body ≡ Some number
+    → decoded (0x26 ∷ (body ++ 0x3B ∷ rest)) ≡ filter is_allowed (number ∷ []) ++ decoded rest
+decoded-meant body rest number e = decoded-reference body rest number (ended_by_semicolon body number e) e
+
+-- the characters that names stand for are allowed
+allowed_in : (list : List Entity) (name : List ℕ) (c : ℕ) → list_all (λ (entity : Entity). is_allowed entity.1) list ≡ true
+    → character_in list name ≡ Some c → is_allowed c ≡ true
+unfolding character_in
+allowed_in [] name c all e = absurd (none-some c e)
+allowed_in (entity ∷ more) name c all e =
+    let both = and_parts _ _ all in
+    ⊎_elim
+    (λ (yes : bytes_eq entity.0 name ≡ true).
+    let same : entity.1 ≡ c = same_Some entity.1 c (sym (cond-true _ _ _ yes) ∙ e) in
+    subst (λ d. is_allowed d ≡ true) same both.0)
+    (λ (other : bytes_eq entity.0 name ≡ false). allowed_in more name c both.1 (sym (cond-false _ _ _ other) ∙ e))
+    (cases_Bool (bytes_eq entity.0 name))
+
+pub named-allowed : (name : List ℕ) (c : ℕ) → named_character name ≡ Some c → is_allowed c ≡ true
+unfolding named_character entities latin_1 special greek other_symbols
+named-allowed name c e = allowed_in entities name c refl e
+
+-- a piece gives allowed characters alone
+kept_allowed : (n : ℕ) → list_all is_allowed (filter is_allowed (n ∷ [])) ≡ true
+kept_allowed n = ⊎_elim
+    (λ (yes : is_allowed n ≡ true). subst (λ l. list_all is_allowed l ≡ true) {x = n ∷ []} (sym (cond-true _ _ _ yes)) (rw yes refl))
+    (λ (other : is_allowed n ≡ false). subst (λ l. list_all is_allowed l ≡ true) {x = []} (sym (cond-false _ _ _ other)) refl)
+    (cases_Bool (is_allowed n))
+
+piece_allowed : (c : ℕ) (text : List ℕ) → is_allowed c ≡ true → list_all is_allowed (first_piece c text).gives ≡ true
+piece_allowed c text is = ⊎_elim
+    (λ (ampersand : (c == 0x26) ≡ true).
+    subst (λ (piece : Piece). list_all is_allowed piece.gives ≡ true) {x = ampersand_piece text} (sym (cond-true _ _ _ ampersand)) (with_body (before_semicolon text)))
+    (λ (other : (c == 0x26) ≡ false).
+    subst (λ (piece : Piece). list_all is_allowed piece.gives ≡ true) {x = character_piece c} (sym (cond-false _ _ _ other)) (rw is refl))
+    (cases_Bool (c == 0x26))
+  where
+    with_number : (body : List ℕ) (o : Option ℕ) → list_all is_allowed (option_map_or (reference_piece body) o (character_piece 0x26)).gives ≡ true
+    with_number body None = refl
+    with_number body (Some number) = kept_allowed number
+
+    with_body : (o : Option (List ℕ)) → list_all is_allowed (option_map_or piece_with o (character_piece 0x26)).gives ≡ true
+    with_body None = refl
+    with_body (Some body) = with_number body (number_meant body)
+
+behind_allowed : (n : ℕ) (text : List ℕ) → list_all is_allowed text ≡ true → list_all is_allowed (decoded_behind n text) ≡ true
+unfolding decoded_behind
+behind_allowed zero [] all = refl
+behind_allowed (suc n) [] all = refl
+behind_allowed (suc n) (c ∷ text) all = behind_allowed n text (and_parts (is_allowed c) (list_all is_allowed text) all).1
+behind_allowed zero (c ∷ text) all =
+    let both = and_parts (is_allowed c) (list_all is_allowed text) all in
+    let piece = first_piece c text in
+    list_all-append is_allowed piece.gives (decoded_behind piece.behind text)
+    ∙ and_from _ _ (piece_allowed c text both.0) (behind_allowed piece.behind text both.1)
+
+-- what an allowed text is decoded to is allowed
+pub decoded-allowed : (text : List ℕ) → list_all is_allowed text ≡ true → list_all is_allowed (decoded text) ≡ true
+decoded-allowed text all = behind_allowed 0 text all
+
+-- what is escaped is read as it was
+escape_read : (c : ℕ) (rest : List ℕ) → decoded (escape c ++ rest) ≡ c ∷ decoded rest
+unfolding number_meant named_character entities latin_1 special greek other_symbols character_in
+escape_read c rest =
+    let Read : ℕ → Type 0 = λ d. decoded (escape d ++ rest) ≡ d ∷ decoded rest in
+    ⊎_elim
+    (λ (ampersand : c ≡ 0x26). subst Read (sym ampersand) (decoded-reference (codes "amp") rest 0x26 refl refl))
+    (λ (other : c ≡ 0x26 → ⊥). ⊎_elim
+    (λ (less : c ≡ 0x3C). subst Read (sym less) (decoded-reference (codes "lt") rest 0x3C refl refl))
+    (λ (other_2 : c ≡ 0x3C → ⊥). ⊎_elim
+    (λ (greater : c ≡ 0x3E). subst Read (sym greater) (decoded-reference (codes "gt") rest 0x3E refl refl))
+    (λ (other_3 : c ≡ 0x3E → ⊥).
+    let no_ampersand = ne_eqb c 0x26 other in
+    let itself : escape c ≡ c ∷ [] =
+    cond-false _ _ _ no_ampersand ∙ cond-false _ _ _ (ne_eqb c 0x3C other_2) ∙ cond-false _ _ _ (ne_eqb c 0x3E other_3) in
+    ap (λ l. decoded (l ++ rest)) itself ∙ decoded-character c rest (ap not no_ampersand))
+    (cases_eq c 0x3E))
+    (cases_eq c 0x3C))
+    (cases_eq c 0x26)
+
+pub decoded-escaped-append : (text rest : List ℕ) → decoded (escaped text ++ rest) ≡ text ++ decoded rest
+decoded-escaped-append [] rest = refl
+decoded-escaped-append (c ∷ text) rest =
+    ap decoded (append_assoc (escape c) (escaped text) rest)
+    ∙ escape_read c (escaped text ++ rest)
+    ∙ ap (λ t. c ∷ t) (decoded-escaped-append text rest)
+
+pub decoded-escaped : (text : List ℕ) → decoded (escaped text) ≡ text
+unfolding decoded_behind
+decoded-escaped text = ap decoded (sym (append-nil (escaped text))) ∙ decoded-escaped-append text [] ∙ append-nil text

@@ -16,19 +16,17 @@ abbrev pub numeral : ℕ → List ℕ → Option ℕ
 numeral radix text =
     if list_all (is_digit radix) text && not (length text == 0) then Some (digits_value radix text) else None
 
--- the text begins with `#`, and with `#x` or `#X`
-abbrev pub is_numeric : List ℕ → Bool
-is_numeric body = slice_index body 0 == 0x23
-
+-- the number that stands behind a `#`: hexadecimal digits behind `x` or `X`, or decimal digits
 abbrev pub is_hexadecimal : List ℕ → Bool
-is_hexadecimal body = is_numeric body && (slice_index body 1 == 0x78 || slice_index body 1 == 0x58)
+is_hexadecimal text = slice_index text 0 == 0x78 || slice_index text 0 == 0x58
 
--- the number of the character that a reference means which has this text between its `&` and its `;`: hexadecimal digits
--- behind `#x` or `#X`, decimal digits behind `#`, or a name; none where the text is nothing of these
+abbrev pub number_written : List ℕ → Option ℕ
+number_written text = if is_hexadecimal text then numeral 16 (drop 1 text) else numeral 10 text
+
+-- the number of the character that a reference means which has this text between its `&` and its `;`: the number behind a
+-- `#`, or that of the character with this name; none where there is no such number or name
 unfoldable pub number_meant : List ℕ → Option ℕ
-number_meant body =
-    if is_hexadecimal body then numeral 16 (drop 2 body)
-    else (if is_numeric body then numeral 10 (drop 1 body) else named_character body)
+number_meant body = if slice_index body 0 == 0x23 then number_written (drop 1 body) else named_character body
 
 -- what stands before the first `;`, if there is one
 unfoldable pub before_semicolon : List ℕ → Option (List ℕ)

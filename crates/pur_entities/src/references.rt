@@ -3,7 +3,7 @@ ghost use Rattle.std.specs.Prelude.{◌≡◌, ◌++◌, ◌∷◌, ◌≤◌, �
 ghost use Rattle.std.specs.List.{list_all};
 ghost use Rattle.std.specs.Str.{chars, IsUtf8};
 ghost use Rattle.pur_text.specs.Characters.{is_allowed};
-ghost use Rattle.pur_entities.specs.References.{numeral, number_meant, decoded};
+ghost use Rattle.pur_entities.specs.References.{numeral, number_written, number_meant, decoded};
 ghost use Rattle.pur_entities.specs.Cuts.{is_plain, is_inside, HasNoBody};
 
 use crate::entities::lookup;
@@ -102,10 +102,19 @@ fn cut_body(text: &str) -> Option<(&str, &str)>
 fn number_meant(body: &str) -> Option<u32>
     ensures { result ≡ option_map (λ n. min n (2 ^ 32 - 1)) (number_meant (chars body.now)) }
 {
-    match body.as_bytes() {
-        [b'#', b'x' | b'X', digits @ ..] => numeral(16, digits),
-        [b'#', digits @ ..] => numeral(10, digits),
-        _ => lookup(body).map(u32::from),
+    match body.strip_prefix('#') {
+        Some(number) => number_written(number.as_bytes()),
+        None => Some(u32::from(lookup(body)?)),
+    }
+}
+
+/// The number that stands behind a `#`, at most `u32::MAX`.
+fn number_written(text: &[u8]) -> Option<u32>
+    ensures { result ≡ option_map (λ n. min n (2 ^ 32 - 1)) (number_written text.now) }
+{
+    match text {
+        [b'x' | b'X', digits @ ..] => numeral(16, digits),
+        _ => numeral(10, text),
     }
 }
 

@@ -1,8 +1,10 @@
-use Rattle.std.proofs.Common.{get_or, ◌≡◌, ◌∙◌, ◌++◌, ◌∷◌, true, List, ℕ, take, drop, suc, ap, sym, subst, refl, None, lit<, inl, inr, ⊎_elim}
+use Rattle.std.proofs.Common.{get_or, ◌<◌, ◌+◌, add-one, ◌≡◌, ◌∙◌, ◌++◌, ◌∷◌, true, List, ℕ, take, drop, suc, ap, sym, subst, refl, None, lit<, inl, inr, ⊎_elim}
 use Rattle.std.specs.Prelude.{◌==◌}
 use Rattle.memchr.specs.Find.{is_byte2}
 use Rattle.std.specs.List.{list_all}
-use Rattle.std.proofs.lemmas.Bool.{or_cases}
+use Rattle.std.proofs.lemmas.Bool.{or_cases, eqb-true}
+use Rattle.std.proofs.lemmas.Str.{IsUtf8-take, IsUtf8-drop, IsCharBoundary-before_ascii, IsCharBoundary-after_ascii}
+use Rattle.std.specs.Str.{IsUtf8, IsCharBoundary}
 use Rattle.std.proofs.lemmas.Str.Pattern.{strip_prefix_char}
 use Rattle.pur_entities.specs.Cuts.{is_inside, IsCutOff}
 use Rattle.pur_entities.proofs.CutLemmas.{none_before, none_at_all, begins_at, cut_at, if_none}
@@ -19,12 +21,18 @@ returns-in_err-strip_prefix-clause-none c =
     let bytes = c.as_bytes.result.now in
     let other = strip_prefix_char 59 c.split_at.result.1.now None c.in_err-strip_prefix.ensures.cases (lit< tt) in
     let within = c.in_ok-end.ensures.0.high in
+    let is_text : IsUtf8 bytes = c.as_bytes.ensures.utf8 in
     let cut_off : IsCutOff bytes = ⊎_elim
-    (λ (ampersand : (get_or bytes end 0 == 38) ≡ true). record {
+    (λ (ampersand : (get_or bytes end 0 == 38) ≡ true).
+    let low : get_or bytes end 0 < 128 = subst (λ b. b < 128) (sym (eqb-true _ 38 ampersand)) (lit< tt) in
+    let up : end + 1 ≡ suc end = add-one end in
+    record {
       before = take end bytes;
       behind = drop (suc end) bytes;
       text_is = cut_at bytes end 38 within ampersand;
       inside = none_before (is_byte2 38 59) bytes end c.in_ok-end.ensures.0.before;
+      before_is_text = IsUtf8-take bytes end is_text (IsCharBoundary-before_ascii bytes end within low);
+      behind_is_text = IsUtf8-drop bytes (suc end) is_text (subst (IsCharBoundary bytes) up (IsCharBoundary-after_ascii bytes end is_text within low));
     })
     (λ (semicolon : (get_or bytes end 0 == 59) ≡ true).
     absurd (other (drop (suc end) bytes) (c.split_at.ensures.back ∙ ap (drop end) (sym c.as_bytes.ensures.value) ∙ begins_at bytes end 59 within semicolon)))
