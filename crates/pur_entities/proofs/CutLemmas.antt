@@ -1,14 +1,14 @@
 -- Parts of a text in which no byte passes a test, as bytes and as characters.
-use Rattle.std.proofs.Common.{◌≡◌, ◌⊎◌, ℕ, zero, suc, ◌+◌, ◌-◌, ◌<◌, ◌≤◌, Bool, true, false, List, [], ◌∷◌, ◌++◌, length, take, drop, get_or, IsUtf8, encode_utf8, encode_utf8_all, refl, sym, ap, subst, ◌∙◌, arith, ⊎_elim, take_all, take-append-drop, append-nil, Some, None}
+use Rattle.std.proofs.Common.{◌≡◌, ℕ, zero, suc, ◌<◌, ◌≤◌, Bool, true, false, List, [], ◌∷◌, ◌++◌, length, take, drop, get_or, IsUtf8, encode_utf8, encode_utf8_all, refl, sym, ap, subst, ◌∙◌, arith, ⊎_elim, take_all, take-append-drop, append-nil, Some, None}
 use Rattle.std.proofs.Math.Seq.{drop-cons}
 use lib.Utf8.{scalar}
-use Rattle.std.specs.Prelude.{◌==◌, ◌&&◌, not, nat_lt, Option, IfNone}
+use Rattle.std.specs.Prelude.{◌==◌, not, nat_lt, Option, IfNone}
 use Rattle.std.specs.List.{list_all}
-use Rattle.std.specs.Str.{chars, IsAscii}
-use Rattle.std.proofs.lemmas.Bool.{cases_Bool, cases_lt, cond-true, cond-false, and_parts, and_from, both_ways, eqb-true}
+use Rattle.std.specs.Str.{chars}
+use Rattle.std.proofs.lemmas.Bool.{cases_Bool, cases_lt, and_parts, and_from, eqb-true}
 use Rattle.std.proofs.lemmas.Bool.Decides.{nat_tests}
 use Rattle.std.proofs.lemmas.List.Folds.{list_all-append}
-use Rattle.std.proofs.lemmas.Str.{chars-nil, chars-append, chars_past_char, chars-encodes, encodes-chars, encodes-IsAscii, encode_ascii, chars-IsAscii, IsUtf8-append, IsUtf8-encode}
+use Rattle.std.proofs.lemmas.Str.{chars-nil, chars-append, chars_past_char, encodes-chars, encodes-IsAscii, encode_ascii, chars-IsAscii, IsUtf8-append, IsUtf8-encode}
 
 -- no byte before place n passes the test
 pub none_before : (test : ℕ → Bool) (text : List ℕ) (n : ℕ) → ((k : ℕ) → 0 ≤ k → k < n → ¬ (test (get_or text k 0) ≡ true)) → list_all (λ b. not (test b)) (take n text) ≡ true

@@ -1,11 +1,11 @@
 -- Numbers that stop growing at the greatest of the code's type.
-use Rattle.std.proofs.Common.{◌≡◌, ◌⊎◌, ℕ, zero, suc, ◌+◌, ◌-◌, ◌*◌, ◌^◌, ◌<◌, ◌≤◌, Bool, true, false, List, [], ◌∷◌, length, take, drop, get_or, Some, None, min, filter, refl, sym, ap, subst, ◌∙◌, arith, ⊎_elim, add-one, drop_of_length-le}
-use Rattle.std.specs.Prelude.{◌==◌, ◌&&◌, not, nat_lt, Option, if◌then◌else◌, option_map}
+use Rattle.std.proofs.Common.{◌≡◌, ℕ, suc, ◌+◌, ◌*◌, ◌<◌, ◌≤◌, Bool, true, false, List, [], ◌∷◌, length, drop, get_or, Some, None, min, filter, refl, sym, ap, ◌∙◌, arith, ⊎_elim, drop_of_length-le}
+use Rattle.std.specs.Prelude.{◌==◌, ◌&&◌, not, Option, if◌then◌else◌, option_map}
 use Rattle.std.specs.Char.{digit_value}
 use Rattle.std.specs.List.{list_all}
 use Rattle.std.specs.Str.Parse.{digits_value_after}
 use Rattle.std.proofs.Math.Seq.{drop-cons}
-use Rattle.std.proofs.lemmas.Bool.{cases_Bool, cases_lt, cond-true, cond-false, and_parts, both_ways}
+use Rattle.std.proofs.lemmas.Bool.{cases_lt, cond-false, both_ways}
 use Rattle.std.proofs.lemmas.Bool.Decides.{nat_tests}
 use Rattle.pur_text.specs.Characters.{is_allowed}
 use Rattle.pur_entities.specs.References.{is_digit, numeral}

@@ -1,5 +1,5 @@
 -- What a table is that can stand for the entities when a name is looked up in it.
-use Rattle.std.specs.Prelude.{ℕ, Bool, true, List, [], ◌∷◌, ◌&&◌, nat_eq, Some}
+use Rattle.std.specs.Prelude.{Bool, true, List, [], ◌∷◌, ◌&&◌, nat_eq, Some}
 use Rattle.std.specs.Cmp.Lexicographic.{slice_cmp}
 use Rattle.std.specs.List.{list_all, list_any}
 use Rattle.std.specs.Option.{option_eq}

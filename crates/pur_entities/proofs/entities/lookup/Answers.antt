@@ -1,6 +1,6 @@
-use Rattle.std.proofs.Common.{◌≡◌, ◌∙◌, sym, refl}
+use Rattle.std.proofs.Common.{◌∙◌, sym, refl}
 use Rattle.pur_entities.specs.Entities.{latin_1, special, greek, other_symbols, entities, character_in, named_character}
-use Rattle.pur_entities.proofs.ReferenceLemmas.{named_character-chars}
+use Rattle.pur_entities.proofs.BodyLemmas.{named_character-chars}
 use Rattle.pur_entities.proofs.entities.lookup.Goals as goal
 
 pub find-requires-clause-rising : goal.find-requires-clause-rising

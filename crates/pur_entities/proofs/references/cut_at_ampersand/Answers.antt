@@ -1,4 +1,4 @@
-use Rattle.std.proofs.Common.{◌≡◌, ◌∙◌, true, take, drop, suc, ap, sym, subst, refl, None, lit<}
+use Rattle.std.proofs.Common.{◌≡◌, ◌∙◌, true, take, drop, suc, ap, sym, subst, None, lit<}
 use Rattle.memchr.specs.Find.{is_byte}
 use Rattle.std.specs.List.{list_all}
 use Rattle.std.proofs.lemmas.Str.Pattern.{strip_prefix_char}

@@ -1,4 +1,4 @@
-use Rattle.std.proofs.Common.{get_or, ◌<◌, ◌+◌, add-one, ◌≡◌, ◌∙◌, ◌++◌, ◌∷◌, true, List, ℕ, take, drop, suc, ap, sym, subst, refl, None, lit<, inl, inr, ⊎_elim}
+use Rattle.std.proofs.Common.{get_or, ◌<◌, ◌+◌, add-one, ◌≡◌, ◌∙◌, true, take, drop, suc, ap, sym, subst, None, lit<, inl, inr, ⊎_elim}
 use Rattle.std.specs.Prelude.{◌==◌}
 use Rattle.memchr.specs.Find.{is_byte2}
 use Rattle.std.specs.List.{list_all}

@@ -1,6 +1,6 @@
-use Rattle.std.proofs.Common.{◌≡◌, ◌∙◌, sym, ap}
+use Rattle.std.proofs.Common.{sym}
 use Rattle.pur_entities.proofs.CutLemmas.{if_none}
-use Rattle.pur_entities.proofs.ReferenceLemmas.{no_body, reference_refused, reference_read}
+use Rattle.pur_entities.proofs.ReadingLemmas.{no_body, reference_refused, reference_read}
 use Rattle.pur_entities.proofs.references.cut_reference.Goals as goal
 
 pub returns-in_err-body-clause-none : goal.returns-in_err-body-clause-none

@@ -1,7 +1,6 @@
-use Rattle.std.proofs.Common.{◌∙◌, ap, sym, string_bytes}
-use Rattle.std.specs.Str.{chars}
+use Rattle.std.proofs.Common.{◌∙◌, string_bytes}
 use Rattle.std.proofs.lemmas.Str.{IsUtf8-string_bytes}
-use Rattle.pur_entities.proofs.ReferenceLemmas.{nothing_read, run_copied, all_read}
+use Rattle.pur_entities.proofs.ReadingLemmas.{nothing_read, run_copied, all_read}
 use Rattle.pur_entities.proofs.references.decode.Goals as goal
 
 pub decoding-init : goal.decoding-init

@@ -2,7 +2,7 @@ use Rattle.std.proofs.Common.{◌≡◌, ◌∙◌, ap, lit<, Some, None, option
 use Rattle.std.proofs.lemmas.Str.Pattern.{strip_prefix_char}
 use Rattle.pur_entities.specs.References.{number_written}
 use Rattle.pur_entities.proofs.NumeralLemmas.{cut_off}
-use Rattle.pur_entities.proofs.ReferenceLemmas.{number_behind, name_meant}
+use Rattle.pur_entities.proofs.BodyLemmas.{number_behind, name_meant}
 use Rattle.pur_entities.proofs.references.number_meant.Goals as goal
 
 pub returns-in-Some : goal.returns-in-Some

@@ -1,4 +1,4 @@
-use Rattle.std.proofs.Common.{◌≡◌, ◌∙◌, ◌+◌, ◌*◌, ◌≤◌, min, ap, arith}
+use Rattle.std.proofs.Common.{◌∙◌, ◌+◌, ◌*◌, min, ap, arith}
 use Rattle.pur_entities.proofs.NumeralLemmas.{greatest, cut_off, digit_read_at, digits_end}
 use Rattle.pur_entities.proofs.references.numeral.Goals as goal
 
