@@ -57,20 +57,20 @@ passes_more p q more (c ∷ text) all =
 
 -- skipping is dropping
 skipped : (n : ℕ) (text : List ℕ) → decoded_behind n text ≡ decoded (drop n text)
-unfolding decoded_behind
+unfolding decoded decoded_behind
 skipped zero text = refl
 skipped (suc n) [] = refl
 skipped (suc n) (c ∷ text) = skipped n text
 
 -- an `&` that begins no reference
 pub decoded-ampersand : (text : List ℕ) → ampersand_piece text ≡ character_piece 0x26 → decoded (0x26 ∷ text) ≡ 0x26 ∷ decoded text
-unfolding decoded_behind
+unfolding decoded decoded_behind
 decoded-ampersand text e = ap (λ (piece : Piece). piece.gives ++ decoded_behind piece.behind text) e
 
 -- a reference
 pub decoded-reference : (body text : List ℕ) (number : ℕ) → list_all no_semicolon body ≡ true → number_meant body ≡ Some number
     → decoded (0x26 ∷ (body ++ 0x3B ∷ text)) ≡ filter is_allowed (number ∷ []) ++ decoded text
-unfolding decoded_behind
+unfolding decoded decoded_behind
 decoded-reference body text number all e =
     let whole = body ++ 0x3B ∷ text in
     let piece : ampersand_piece whole ≡ reference_piece body number =
@@ -86,7 +86,7 @@ decoded-reference body text number all e =
 
 -- any other character
 pub decoded-character : (c : ℕ) (text : List ℕ) → is_plain c ≡ true → decoded (c ∷ text) ≡ c ∷ decoded text
-unfolding decoded_behind
+unfolding decoded decoded_behind
 decoded-character c text plain =
     let piece : first_piece c text ≡ character_piece c = cond-false _ _ _ (not-true _ plain) in
     ap (λ (piece : Piece). piece.gives ++ decoded_behind piece.behind text) piece
@@ -100,7 +100,7 @@ decoded-plain (c ∷ run) text all =
 
 -- a text without one is decoded to itself
 pub decoded-same : (text : List ℕ) → list_all is_plain text ≡ true → decoded text ≡ text
-unfolding decoded_behind
+unfolding decoded decoded_behind
 decoded-same text all = ap decoded (sym (append-nil text)) ∙ decoded-plain text [] all ∙ append-nil text
 
 -- a body that means something has no `;`
@@ -157,7 +157,7 @@ piece_allowed c text is = ⊎_elim
     with_body (Some body) = with_number body (number_meant body)
 
 behind_allowed : (n : ℕ) (text : List ℕ) → list_all is_allowed text ≡ true → list_all is_allowed (decoded_behind n text) ≡ true
-unfolding decoded_behind
+unfolding decoded decoded_behind
 behind_allowed zero [] all = refl
 behind_allowed (suc n) [] all = refl
 behind_allowed (suc n) (c ∷ text) all = behind_allowed n text (and_parts (is_allowed c) (list_all is_allowed text) all).1
@@ -169,6 +169,7 @@ behind_allowed zero (c ∷ text) all =
 
 -- what an allowed text is decoded to is allowed
 pub decoded-allowed : (text : List ℕ) → list_all is_allowed text ≡ true → list_all is_allowed (decoded text) ≡ true
+unfolding decoded
 decoded-allowed text all = behind_allowed 0 text all
 
 -- what is escaped is read as it was
@@ -192,6 +193,7 @@ escape_read c rest =
     (cases_eq c 0x26)
 
 pub decoded-escaped-append : (text rest : List ℕ) → decoded (escaped text ++ rest) ≡ text ++ decoded rest
+unfolding escaped
 decoded-escaped-append [] rest = refl
 decoded-escaped-append (c ∷ text) rest =
     ap decoded (append_assoc (escape c) (escaped text) rest)
@@ -199,5 +201,5 @@ decoded-escaped-append (c ∷ text) rest =
     ∙ ap (λ t. c ∷ t) (decoded-escaped-append text rest)
 
 pub decoded-escaped : (text : List ℕ) → decoded (escaped text) ≡ text
-unfolding decoded_behind
+unfolding decoded decoded_behind
 decoded-escaped text = ap decoded (sym (append-nil (escaped text))) ∙ decoded-escaped-append text [] ∙ append-nil text

@@ -69,7 +69,7 @@ decoded_behind zero (c ∷ text) =
     piece.gives ++ decoded_behind piece.behind text
 
 -- what a text gives where its references are read
-abbrev pub decoded : List ℕ → List ℕ
+unfoldable pub decoded : List ℕ → List ℕ
 decoded text = decoded_behind 0 text
 
 -- how a character is written so that no reference and no tag begins or ends with it
@@ -78,5 +78,5 @@ escape c =
     if c == 0x26 then codes "&amp;" else (if c == 0x3C then codes "&lt;" else (if c == 0x3E then codes "&gt;" else c ∷ []))
 
 -- a text written so
-abbrev pub escaped : List ℕ → List ℕ
+unfoldable pub escaped : List ℕ → List ℕ
 escaped text = flat_map escape text
