@@ -1,0 +1,18 @@
+use Rattle.std.proofs.Common.{◌∙◌, sym, refl}
+use Rattle.pur_entities.specs.Entities.{latin_1, special, greek, other_symbols, entities, character_in, named_character}
+use Rattle.pur_entities.proofs.BodyLemmas.{named_character-chars}
+use Rattle.pur_entities.proofs.entities.lookup.Goals as goal
+
+pub find-requires-clause-rising : goal.find-requires-clause-rising
+find-requires-clause-rising c = refl
+
+pub find-requires-clause-right : goal.find-requires-clause-right
+unfolding named_character entities latin_1 special greek other_symbols character_in
+find-requires-clause-right c = refl
+
+pub find-requires-clause-whole : goal.find-requires-clause-whole
+unfolding entities latin_1 special greek other_symbols
+find-requires-clause-whole c = refl
+
+pub returns : goal.returns
+returns c = c.find.ensures ∙ sym (named_character-chars c.args.name.now c.utf8.name)

@@ -1,0 +1,4 @@
+pub mod Cuts
+pub mod Entities
+pub mod References
+pub mod Tables
