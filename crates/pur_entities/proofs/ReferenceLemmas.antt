@@ -11,7 +11,8 @@ use Rattle.std.proofs.lemmas.List.Folds.{list_all-append}
 use Rattle.pur_text.specs.Characters.{is_allowed}
 use Rattle.pur_entities.specs.Cuts.{is_plain, is_inside}
 use Rattle.pur_entities.specs.Entities.{Entity, latin_1, special, greek, other_symbols, entities, character_in, named_character}
-use Rattle.pur_entities.specs.References.{number_meant, before_semicolon, Piece, character_piece, reference_piece, piece_with, ampersand_piece, first_piece, decoded_behind, decoded, escape, escaped}
+use Rattle.pur_entities.specs.References.{number_meant, before_semicolon, Piece, character_piece, reference_piece, piece_with, ampersand_piece, first_piece, decoded_behind, decoded}
+use Rattle.pur_text.specs.Escapes.{escape, escaped}
 use Rattle.pur_entities.proofs.BodyLemmas.{no_semicolon, nothing_meant, passes_no_semicolon}
 
 -- it ends at the first `;`

@@ -1,7 +1,7 @@
 -- Character references (XML 1.0, section 4.1), and the text that a text with references stands for.
-use Rattle.std.specs.Prelude.{ℕ, zero, suc, ◌+◌, ◌==◌, ◌&&◌, ◌||◌, not, nat_lt, Bool, if◌then◌else◌, List, [], ◌∷◌, ◌++◌, length, drop, filter, slice_index, codes, Option, Some, None, option_map}
+use Rattle.std.specs.Prelude.{ℕ, zero, suc, ◌+◌, ◌==◌, ◌&&◌, ◌||◌, not, nat_lt, Bool, if◌then◌else◌, List, [], ◌∷◌, ◌++◌, length, drop, filter, slice_index, Option, Some, None, option_map}
 use Rattle.std.specs.Char.{digit_value}
-use Rattle.std.specs.List.{list_all, flat_map}
+use Rattle.std.specs.List.{list_all}
 use Rattle.std.specs.Option.{option_map_or}
 use Rattle.std.specs.Str.Parse.{digits_value}
 use Rattle.pur_text.specs.Characters.{is_allowed}
@@ -71,12 +71,3 @@ decoded_behind zero (c ∷ text) =
 -- what a text gives where its references are read
 unfoldable pub decoded : List ℕ → List ℕ
 decoded text = decoded_behind 0 text
-
--- how a character is written so that no reference and no tag begins or ends with it
-abbrev pub escape : ℕ → List ℕ
-escape c =
-    if c == 0x26 then codes "&amp;" else (if c == 0x3C then codes "&lt;" else (if c == 0x3E then codes "&gt;" else c ∷ []))
-
--- a text written so
-unfoldable pub escaped : List ℕ → List ℕ
-escaped text = flat_map escape text

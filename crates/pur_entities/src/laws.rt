@@ -3,7 +3,8 @@ ghost use Rattle.std.specs.Prelude.{◌≡◌, ◌++◌, ◌∷◌, ◌==◌, []
 ghost use Rattle.std.specs.List.{list_all};
 ghost use Rattle.pur_text.specs.Characters.{is_allowed};
 ghost use Rattle.pur_entities.specs.Entities.{named_character};
-ghost use Rattle.pur_entities.specs.References.{number_meant, decoded, escaped};
+ghost use Rattle.pur_entities.specs.References.{number_meant, decoded};
+ghost use Rattle.pur_text.specs.Escapes.{escaped};
 
 /// A run without an `&` stays as it is, whatever stands behind it; and so does a whole text without one.
 pub fn plain_is_kept()

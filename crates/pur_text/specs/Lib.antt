@@ -1,4 +1,5 @@
 pub mod Characters
 pub mod Cleaning
+pub mod Escapes
 pub mod Hosts
 pub mod Runs
