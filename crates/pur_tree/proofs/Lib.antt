@@ -1,4 +1,5 @@
 pub mod BuildingLemmas
+pub mod EscapeLemmas
 pub mod NodeLemmas
 pub mod NodesLemmas
 pub mod SpellingLemmas

@@ -6,14 +6,17 @@ use Rattle.pur_tree.specs.declared.element.Element.{Element}
 use Rattle.pur_tree.specs.declared.element.Element.TheVariants.{P, Br}
 use Rattle.pur_tree.specs.Elements.{name_of, is_empty_element}
 use Rattle.pur_tree.specs.Nodes.{Nodes, no_nodes, text_first, elem_first, is_sound, is_joined, has_no_nodes, starts_with_text}
-use Rattle.pur_tree.specs.Spelling.{is_markup, start_tag_of, end_tag_of, empty_tag_of, spelling_of, has_plain_texts, Spells, spells_nothing, spells_text, spells_empty, spells_element}
+use Rattle.pur_tree.specs.Spelling.{start_tag_of, end_tag_of, empty_tag_of, spelling_of, has_allowed_texts, Spells, spells_nothing, spells_text, spells_empty, spells_element}
+use Rattle.pur_text.specs.Characters.{is_allowed}
+use Rattle.pur_text.specs.Escapes.{escaped}
+use Rattle.pur_tree.proofs.EscapeLemmas.{escape_front, no_tag_in_escaped, escaped_alike}
 use Rattle.pur_tree.proofs.NodesLemmas.{left_of, right_of}
 use Rattle.pur_tree.proofs.TokensLemmas.{none_of}
 
 -- what is spelled is spelled as the spelling
 pub spelling-spelled : {n : Nodes} {t : List ℕ} → Spells n t → spelling_of n ≡ t
 spelling-spelled spells_nothing = refl
-spelling-spelled (spells_text {c} {s} {rest} {t} plain alone more) = ap (λ u. (c ∷ s) ++ u) (spelling-spelled more)
+spelling-spelled (spells_text {c} {s} {rest} {t} plain alone more) = ap (λ u. escaped (c ∷ s) ++ u) (spelling-spelled more)
 spelling-spelled (spells_empty {e} {rest} {t} empty more) = rw empty (ap (λ u. empty_tag_of e ++ u) (spelling-spelled more))
 spelling-spelled (spells_element {e} {kids} {rest} {u} {t} full inner more) =
     rw full (ap (λ w. start_tag_of e ++ (w ++ (end_tag_of e ++ spelling_of rest))) (spelling-spelled inner)
@@ -24,11 +27,11 @@ false_of true h = absurd (cc)
 false_of false h = refl
 
 -- joined nodes with plain texts have a spelling
-pub Spells-spelling : (n : Nodes) → is_sound n ≡ true → is_joined n ≡ true → has_plain_texts n ≡ true → Spells n (spelling_of n)
+pub Spells-spelling : (n : Nodes) → is_sound n ≡ true → is_joined n ≡ true → has_allowed_texts n ≡ true → Spells n (spelling_of n)
 Spells-spelling no_nodes s j p = spells_nothing
 Spells-spelling (text_first [] n) s j p = absurd (omega (arith, ltb-true 0 0 (left_of _ (is_sound n) s)))
 Spells-spelling (text_first (c ∷ t) n) s j p =
-    spells_text (false_of _ (left_of _ _ p)) (false_of _ (left_of _ _ j)) (Spells-spelling n (right_of _ _ s) (right_of _ _ j) (right_of _ _ p))
+    spells_text (left_of _ _ p) (false_of _ (left_of _ _ j)) (Spells-spelling n (right_of _ _ s) (right_of _ _ j) (right_of _ _ p))
 Spells-spelling (elem_first e k n) s j p =
     go (is_empty_element e) refl (Spells-spelling n (right_of _ _ (right_of _ _ s)) (right_of _ _ j) (right_of _ _ p))
     (Spells-spelling k (left_of _ _ (right_of _ _ s)) (left_of _ _ j) (left_of _ _ p))
@@ -90,21 +93,36 @@ tag_is_no_closer : (e : Element) (c : ℕ) (z : List ℕ) → is_closer (60 ∷ 
 tag_is_no_closer P c z = refl
 tag_is_no_closer Br c z = refl
 
-text_is_no_closer : (c : ℕ) (z : List ℕ) → is_markup c ≡ false → is_closer (c ∷ z) ≡ false
-text_is_no_closer c [] h = refl
-text_is_no_closer c (d ∷ z) h = rw (neither_left (c == 60) (c == 62) (neither_right (c == 38) ((c == 60) || (c == 62)) h)) refl
+-- what begins with something else than `<` is no closer
+closer_head : (a : ℕ) (w : List ℕ) → (a == 60) ≡ false → is_closer (a ∷ w) ≡ false
+closer_head a [] h = refl
+closer_head a (b ∷ w) h = rw h refl
 
-closer_stops : (x : List ℕ) → is_closer x ≡ true → is_stop is_markup x ≡ true
+-- a written text that isn't empty, and what stands behind it, by their first character
+pub record TextFront (c : ℕ) (s z : List ℕ) : Type 0 where
+  pub head : ℕ
+  pub tail : List ℕ
+  pub is : escaped (c ∷ s) ++ z ≡ head ∷ tail
+  pub no_tag : (head == 60) ≡ false
+
+text_front : (c : ℕ) (s z : List ℕ) → TextFront c s z
+unfolding escaped
+text_front c s z = let f = escape_front c in record { head = f.head; tail = (f.tail ++ escaped s) ++ z; is = ap (λ e. (e ++ escaped s) ++ z) f.is; no_tag = f.no_tag }
+
+text_is_no_closer : (c : ℕ) (s z : List ℕ) → is_closer (escaped (c ∷ s) ++ z) ≡ false
+text_is_no_closer c s z = let f = text_front c s z in ap is_closer f.is ∙ closer_head f.head f.tail f.no_tag
+
+-- what begins a tag
+abbrev pub is_tag_start : ℕ → Bool
+is_tag_start c = c == 60
+
+closer_stops : (x : List ℕ) → is_closer x ≡ true → is_stop is_tag_start x ≡ true
 closer_stops [] h = refl
 closer_stops (a ∷ []) h = absurd (cc)
-closer_stops (a ∷ b ∷ x) h = rw (left_of (a == 60) (b == 47) h) (or_true_left (a == 38))
-  where
-    or_true_left : (b : Bool) → (b || true) ≡ true
-    or_true_left true = refl
-    or_true_left false = refl
+closer_stops (a ∷ b ∷ x) h = left_of (a == 60) (b == 47) h
 
 -- a run of text ends where the text beside it ends
-text_stops : {n : Nodes} {t : List ℕ} → Spells n t → (x : List ℕ) → starts_with_text n ≡ false → is_closer x ≡ true → is_stop is_markup (t ++ x) ≡ true
+text_stops : {n : Nodes} {t : List ℕ} → Spells n t → (x : List ℕ) → starts_with_text n ≡ false → is_closer x ≡ true → is_stop is_tag_start (t ++ x) ≡ true
 text_stops spells_nothing x h k = closer_stops x k
 text_stops (spells_text {c} {s} {rest} {t} plain alone more) x h k = absurd (cc)
 text_stops (spells_empty {e} {rest} {t} empty more) x h k = refl
@@ -135,9 +153,10 @@ tag_cut e d c b z w p q h =
     (same_element e d r.0, head_same c b z w r.1, tail_same c b z w r.1)
 
 -- no text begins with markup
-text_begins_no_tag : {A : Type 0} (c : ℕ) (s z w : List ℕ) → list_any is_markup (c ∷ s) ≡ false → c ∷ z ≡ 60 ∷ w → A
-text_begins_no_tag c s z w plain h =
-    true_is_no_false (is_markup c) (rw (head_same c 60 z w h) refl) (neither_left (is_markup c) (list_any is_markup s) plain)
+text_begins_no_tag : {A : Type 0} (c : ℕ) (s z w : List ℕ) → escaped (c ∷ s) ++ z ≡ 60 ∷ w → A
+text_begins_no_tag c s z w h =
+  let f = text_front c s z in
+  true_is_no_false (f.head == 60) (rw (head_same f.head 60 f.tail w (sym f.is ∙ h)) refl) f.no_tag
 
 -- an element in two readings: its children and what stands behind it
 element_parts : (e : Element) (u t x : List ℕ) → (u ++ (end_tag_of e ++ t)) ++ x ≡ u ++ (end_tag_of e ++ (t ++ x))
@@ -148,26 +167,26 @@ pub one_reading : {n : Nodes} {u : List ℕ} → Spells n u → {m : Nodes} {v :
     → is_closer x ≡ true → is_closer y ≡ true → u ++ x ≡ v ++ y → (n ≡ m) × (x ≡ y)
 one_reading spells_nothing spells_nothing x y p q h = (refl, h)
 one_reading spells_nothing (spells_text {c} {s} {rest} {t} plain alone more) x y p q h =
-    true_is_no_false _ p (ap is_closer h ∙ text_is_no_closer c ((s ++ t) ++ y) (neither_left (is_markup c) (list_any is_markup s) plain))
+    true_is_no_false _ p (ap is_closer h ∙ ap is_closer (append_assoc (escaped (c ∷ s)) t y) ∙ text_is_no_closer c s (t ++ y))
 one_reading spells_nothing (spells_empty {e} {rest} {t} empty more) x y p q h =
     true_is_no_false _ p (ap is_closer (h ∙ empty_front e t y) ∙ tag_is_no_closer e 32 (47 ∷ 62 ∷ (t ++ y)))
 one_reading spells_nothing (spells_element {e} {kids} {rest} {u} {t} full inner more) x y p q h =
     true_is_no_false _ p (ap is_closer (h ∙ start_front e (u ++ (end_tag_of e ++ t)) y) ∙ tag_is_no_closer e 62 ((u ++ (end_tag_of e ++ t)) ++ y))
 one_reading (spells_text {c} {s} {rest} {t} plain alone more) spells_nothing x y p q h =
-    true_is_no_false _ q (ap is_closer (sym h) ∙ text_is_no_closer c ((s ++ t) ++ x) (neither_left (is_markup c) (list_any is_markup s) plain))
+    true_is_no_false _ q (ap is_closer (sym h) ∙ ap is_closer (append_assoc (escaped (c ∷ s)) t x) ∙ text_is_no_closer c s (t ++ x))
 one_reading (spells_text {c} {s} {rest} {t} plain alone more) (spells_text {c = d} {s = r} {rest = back} {t = w} plain' alone' more') x y p q h =
-    let cut = run_cut is_markup (c ∷ s) (d ∷ r) (t ++ x) (w ++ y) plain plain' (text_stops more x alone p) (text_stops more' y alone' q)
-    (sym (append_assoc (c ∷ s) t x) ∙ h ∙ append_assoc (d ∷ r) w y) in
+    let cut = run_cut is_tag_start (escaped (c ∷ s)) (escaped (d ∷ r)) (t ++ x) (w ++ y) (no_tag_in_escaped (c ∷ s)) (no_tag_in_escaped (d ∷ r))
+        (text_stops more x alone p) (text_stops more' y alone' q) (sym (append_assoc (escaped (c ∷ s)) t x) ∙ h ∙ append_assoc (escaped (d ∷ r)) w y) in
     let behind = one_reading more more' x y p q cut.1 in
-    (ap (λ z. text_first z rest) cut.0 ∙ ap (text_first (d ∷ r)) behind.0, behind.1)
+    (ap (λ z. text_first z rest) (escaped_alike (c ∷ s) (d ∷ r) cut.0) ∙ ap (text_first (d ∷ r)) behind.0, behind.1)
 one_reading (spells_text {c} {s} {rest} {t} plain alone more) (spells_empty {e} {rest = back} {t = w} empty more') x y p q h =
-    text_begins_no_tag c s ((s ++ t) ++ x) _ plain (h ∙ empty_front e w y)
+    text_begins_no_tag c s (t ++ x) _ (sym (append_assoc (escaped (c ∷ s)) t x) ∙ h ∙ empty_front e w y)
 one_reading (spells_text {c} {s} {rest} {t} plain alone more) (spells_element {e} {kids} {rest = back} {u} {t = w} full inner more') x y p q h =
-    text_begins_no_tag c s ((s ++ t) ++ x) _ plain (h ∙ start_front e (u ++ (end_tag_of e ++ w)) y)
+    text_begins_no_tag c s (t ++ x) _ (sym (append_assoc (escaped (c ∷ s)) t x) ∙ h ∙ start_front e (u ++ (end_tag_of e ++ w)) y)
 one_reading (spells_empty {e} {rest} {t} empty more) spells_nothing x y p q h =
     true_is_no_false _ q (ap is_closer (sym h ∙ empty_front e t x) ∙ tag_is_no_closer e 32 (47 ∷ 62 ∷ (t ++ x)))
 one_reading (spells_empty {e} {rest} {t} empty more) (spells_text {c} {s} {rest = back} {t = w} plain alone more') x y p q h =
-    text_begins_no_tag c s ((s ++ w) ++ y) _ plain (sym h ∙ empty_front e t x)
+    text_begins_no_tag c s (w ++ y) _ (sym (append_assoc (escaped (c ∷ s)) w y) ∙ sym h ∙ empty_front e t x)
 one_reading (spells_empty {e} {rest} {t} empty more) (spells_empty {e = d} {rest = back} {t = w} empty' more') x y p q h =
     let cut = tag_cut e d 32 32 (47 ∷ 62 ∷ (t ++ x)) (47 ∷ 62 ∷ (w ++ y)) refl refl (sym (empty_front e t x) ∙ h ∙ empty_front d w y) in
     let behind = one_reading more more' x y p q (tail_same 62 62 _ _ (tail_same 47 47 _ _ cut.2)) in
@@ -179,7 +198,7 @@ one_reading (spells_empty {e} {rest} {t} empty more) (spells_element {e = d} {ki
 one_reading (spells_element {e} {kids} {rest} {u} {t} full inner more) spells_nothing x y p q h =
     true_is_no_false _ q (ap is_closer (sym h ∙ start_front e (u ++ (end_tag_of e ++ t)) x) ∙ tag_is_no_closer e 62 ((u ++ (end_tag_of e ++ t)) ++ x))
 one_reading (spells_element {e} {kids} {rest} {u} {t} full inner more) (spells_text {c} {s} {rest = back} {t = w} plain alone more') x y p q h =
-    text_begins_no_tag c s ((s ++ w) ++ y) _ plain (sym h ∙ start_front e (u ++ (end_tag_of e ++ t)) x)
+    text_begins_no_tag c s (w ++ y) _ (sym (append_assoc (escaped (c ∷ s)) w y) ∙ sym h ∙ start_front e (u ++ (end_tag_of e ++ t)) x)
 one_reading (spells_element {e} {kids} {rest} {u} {t} full inner more) (spells_empty {e = d} {rest = back} {t = w} empty more') x y p q h =
     let cut = tag_cut e d 62 32 ((u ++ (end_tag_of e ++ t)) ++ x) (47 ∷ 62 ∷ (w ++ y)) refl refl
     (sym (start_front e (u ++ (end_tag_of e ++ t)) x) ∙ h ∙ empty_front d w y) in

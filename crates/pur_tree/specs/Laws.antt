@@ -1,7 +1,7 @@
 use Rattle.std.specs.Prelude.{ℕ, List, [], ◌≡◌, true}
 use Rattle.pur_tree.specs.Nodes.{Nodes, is_joined, is_sound}
 use Rattle.pur_tree.specs.Tokens.{Token, IsBalanced, IsTreeOf, tree_of}
-use Rattle.pur_tree.specs.Spelling.{Spells, spelling_of, has_plain_texts}
+use Rattle.pur_tree.specs.Spelling.{Spells, spelling_of, has_allowed_texts}
 
 -- a text spells at most one list of nodes
 abbrev pub SpellsAtMostOne : Type 0
@@ -11,9 +11,9 @@ SpellsAtMostOne = (n m : Nodes) (text : List ℕ) → Spells n text → Spells m
 abbrev pub SpelledAsItself : Type 0
 SpelledAsItself = (n : Nodes) (text : List ℕ) → Spells n text → spelling_of n ≡ text
 
--- nodes without empty or neighbouring texts, without children in EMPTY elements and without markup in texts have a spelling
+-- nodes without empty or neighbouring texts, without children in EMPTY elements and with allowed characters alone in texts have a spelling
 abbrev pub HasSpelling : Type 0
-HasSpelling = (n : Nodes) → is_sound n ≡ true → is_joined n ≡ true → has_plain_texts n ≡ true → Spells n (spelling_of n)
+HasSpelling = (n : Nodes) → is_sound n ≡ true → is_joined n ≡ true → has_allowed_texts n ≡ true → Spells n (spelling_of n)
 
 -- the tree of a flat list of tokens is the one list of nodes whose tokens they are
 abbrev pub HasOneTree : Type 0

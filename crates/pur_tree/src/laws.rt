@@ -11,7 +11,7 @@ pub fn spelled_as_itself()
     ensures { SpelledAsItself }
 {}
 
-/// Nodes of a forest without neighbouring texts and without markup in texts have a spelling.
+/// Nodes of a forest without neighbouring texts and with allowed characters alone in texts have a spelling.
 pub fn has_spelling()
     ensures { HasSpelling }
 {}
