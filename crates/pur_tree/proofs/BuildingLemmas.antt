@@ -1,9 +1,9 @@
 use Rattle.std.proofs.Common.{◌≡◌, ℕ, suc, ◌+◌, ◌<◌, List, [], ◌∷◌, ◌++◌, length, refl, ap, sym, subst, ◌∙◌, Bool, true, false, ◌⊎◌, inl, inr, ◌&&◌, ◌||◌, not, arith, append_assoc, append-nil, length-append}
 use Rattle.std.proofs.lemmas.Bool.{lt-ltb}
-use Rattle.pur_tree.specs.declared.element.Element.{Element}
+use Rattle.pur_names.specs.declared.elements.Element.{Element}
 use Rattle.pur_tree.specs.declared.node.Node.{Node}
 use Rattle.pur_tree.specs.declared.builder.Outer.{Outer}
-use Rattle.pur_tree.specs.Elements.{is_empty_element}
+use Rattle.pur_modules.specs.Contents.{is_empty_element}
 use Rattle.pur_tree.specs.Nodes.{Nodes, no_nodes, text_first, elem_first, nodes_append, is_sound, is_joined, has_no_nodes, starts_with_text}
 use Rattle.pur_tree.specs.Image.{nodes_of}
 use Rattle.pur_tree.specs.Building.{finished, opened_by, written_before, closings_of, can_hold, last_of, ends_with_text, text_nodes, Fits, IsBuilding}

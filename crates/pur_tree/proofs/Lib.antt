@@ -1,5 +1,6 @@
 pub mod BuildingLemmas
 pub mod EscapeLemmas
+pub mod NameLemmas
 pub mod NodeLemmas
 pub mod NodesLemmas
 pub mod SpellingLemmas

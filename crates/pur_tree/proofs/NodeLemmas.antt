@@ -2,7 +2,7 @@ use Rattle.std.proofs.Common.{◌≡◌, List, [], ◌∷◌, ◌++◌, refl, ap
 use Rattle.std.specs.Str.{chars}
 use Rattle.std.specs.declared.alloc.Global.{Global}
 use Rattle.std.specs.declared.vec.Vec.{Vec}
-use Rattle.pur_tree.specs.declared.element.Element.{Element}
+use Rattle.pur_names.specs.declared.elements.Element.{Element}
 use Rattle.pur_tree.specs.declared.node.Node.{Node, Text, Elem', Row_of-Node, end_of-Node, more_of-Node}
 use Rattle.pur_tree.specs.declared.node.Node.TheBlock as block
 use Rattle.pur_tree.specs.declared.node.Node.TheVariants as variants

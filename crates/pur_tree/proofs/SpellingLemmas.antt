@@ -2,14 +2,15 @@ use Rattle.std.proofs.Common.{◌≡◌, ℕ, List, [], ◌∷◌, ◌++◌, ref
 use Rattle.std.specs.List.{list_any}
 use Rattle.std.proofs.lemmas.Bool.{ltb-true}
 use Rattle.std.proofs.lemmas.List.{append_cancel_left}
-use Rattle.pur_tree.specs.declared.element.Element.{Element}
-use Rattle.pur_tree.specs.declared.element.Element.TheVariants.{P, Br}
-use Rattle.pur_tree.specs.Elements.{name_of, is_empty_element}
+use Rattle.pur_names.specs.declared.elements.Element.{Element}
+use Rattle.pur_names.specs.Elements.{element_name}
+use Rattle.pur_modules.specs.Contents.{is_empty_element}
 use Rattle.pur_tree.specs.Nodes.{Nodes, no_nodes, text_first, elem_first, is_sound, is_joined, has_no_nodes, starts_with_text}
 use Rattle.pur_tree.specs.Spelling.{start_tag_of, end_tag_of, empty_tag_of, spelling_of, has_allowed_texts, Spells, spells_nothing, spells_text, spells_empty, spells_element}
-use Rattle.pur_text.specs.Characters.{is_allowed}
 use Rattle.pur_text.specs.Escapes.{escaped}
 use Rattle.pur_tree.proofs.EscapeLemmas.{escape_front, no_tag_in_escaped, escaped_alike}
+use Rattle.pur_names.proofs.ElementLaws.{element_name-distinct}
+use Rattle.pur_tree.proofs.NameLemmas.{is_name_end, name_runs, is_closer, tag_is_no_closer}
 use Rattle.pur_tree.proofs.NodesLemmas.{left_of, right_of}
 use Rattle.pur_tree.proofs.TokensLemmas.{none_of}
 
@@ -68,30 +69,9 @@ run_cut stops (c ∷ a) (d ∷ b) x y p q s t e =
     let r = run_cut stops a b x y (neither_right (stops c) (list_any stops a) p) (neither_right (stops d) (list_any stops b) q) s t more in
     (let h : c ∷ a ≡ d ∷ b = rw (same, r.0) refl in h, r.1)
 
--- the characters that end a name in a tag
-abbrev pub is_name_end : ℕ → Bool
-is_name_end c = (c == 32) || (c == 62)
-
-name_runs : (e : Element) → list_any is_name_end (name_of e) ≡ false
-name_runs P = refl
-name_runs Br = refl
-
 -- an element has a name of its own
-pub same_element : (e d : Element) → name_of e ≡ name_of d → e ≡ d
-same_element P P h = refl
-same_element P Br h = absurd (cc)
-same_element Br P h = absurd (cc)
-same_element Br Br h = refl
-
--- what stands behind nodes: nothing, or the end tag of the element that they are the children of
-abbrev pub is_closer : List ℕ → Bool
-is_closer [] = true
-is_closer (a ∷ []) = false
-is_closer (a ∷ b ∷ x) = (a == 60) && (b == 47)
-
-tag_is_no_closer : (e : Element) (c : ℕ) (z : List ℕ) → is_closer (60 ∷ (name_of e ++ (c ∷ z))) ≡ false
-tag_is_no_closer P c z = refl
-tag_is_no_closer Br c z = refl
+pub same_named : (e d : Element) → element_name e ≡ element_name d → e ≡ d
+same_named e d h = element_name-distinct e d h
 
 -- what begins with something else than `<` is no closer
 closer_head : (a : ℕ) (w : List ℕ) → (a == 60) ≡ false → is_closer (a ∷ w) ≡ false
@@ -132,12 +112,12 @@ true_is_no_false : {A : Type 0} (b : Bool) → b ≡ true → b ≡ false → A
 true_is_no_false b p q = absurd (cc)
 
 -- an empty tag and what stands behind it, from its name on
-empty_front : (e : Element) (t y : List ℕ) → (empty_tag_of e ++ t) ++ y ≡ 60 ∷ (name_of e ++ (32 ∷ 47 ∷ 62 ∷ (t ++ y)))
-empty_front e t y = ap (λ z. 60 ∷ z) (append_assoc (name_of e ++ (32 ∷ 47 ∷ 62 ∷ [])) t y ∙ append_assoc (name_of e) (32 ∷ 47 ∷ 62 ∷ []) (t ++ y))
+empty_front : (e : Element) (t y : List ℕ) → (empty_tag_of e ++ t) ++ y ≡ 60 ∷ (element_name e ++ (32 ∷ 47 ∷ 62 ∷ (t ++ y)))
+empty_front e t y = ap (λ z. 60 ∷ z) (append_assoc (element_name e ++ (32 ∷ 47 ∷ 62 ∷ [])) t y ∙ append_assoc (element_name e) (32 ∷ 47 ∷ 62 ∷ []) (t ++ y))
 
 -- a start tag and what stands behind it, from its name on
-start_front : (e : Element) (t y : List ℕ) → (start_tag_of e ++ t) ++ y ≡ 60 ∷ (name_of e ++ (62 ∷ (t ++ y)))
-start_front e t y = ap (λ z. 60 ∷ z) (append_assoc (name_of e ++ (62 ∷ [])) t y ∙ append_assoc (name_of e) (62 ∷ []) (t ++ y))
+start_front : (e : Element) (t y : List ℕ) → (start_tag_of e ++ t) ++ y ≡ 60 ∷ (element_name e ++ (62 ∷ (t ++ y)))
+start_front e t y = ap (λ z. 60 ∷ z) (append_assoc (element_name e ++ (62 ∷ [])) t y ∙ append_assoc (element_name e) (62 ∷ []) (t ++ y))
 
 tail_same : (c d : ℕ) (a b : List ℕ) → c ∷ a ≡ d ∷ b → a ≡ b
 tail_same c d a b h = cc
@@ -147,16 +127,16 @@ head_same c d a b h = cc
 
 -- two tags with one text have one name, and the same behind it
 tag_cut : (e d : Element) (c b : ℕ) (z w : List ℕ) → is_name_end c ≡ true → is_name_end b ≡ true
-    → 60 ∷ (name_of e ++ (c ∷ z)) ≡ 60 ∷ (name_of d ++ (b ∷ w)) → (e ≡ d) × (c ≡ b) × (z ≡ w)
+    → 60 ∷ (element_name e ++ (c ∷ z)) ≡ 60 ∷ (element_name d ++ (b ∷ w)) → (e ≡ d) × (c ≡ b) × (z ≡ w)
 tag_cut e d c b z w p q h =
-    let r = run_cut is_name_end (name_of e) (name_of d) (c ∷ z) (b ∷ w) (name_runs e) (name_runs d) p q (tail_same 60 60 _ _ h) in
-    (same_element e d r.0, head_same c b z w r.1, tail_same c b z w r.1)
+    let r = run_cut is_name_end (element_name e) (element_name d) (c ∷ z) (b ∷ w) (name_runs e) (name_runs d) p q (tail_same 60 60 _ _ h) in
+    (same_named e d r.0, head_same c b z w r.1, tail_same c b z w r.1)
 
 -- no text begins with markup
 text_begins_no_tag : {A : Type 0} (c : ℕ) (s z w : List ℕ) → escaped (c ∷ s) ++ z ≡ 60 ∷ w → A
 text_begins_no_tag c s z w h =
-  let f = text_front c s z in
-  true_is_no_false (f.head == 60) (rw (head_same f.head 60 f.tail w (sym f.is ∙ h)) refl) f.no_tag
+    let f = text_front c s z in
+    true_is_no_false (f.head == 60) (rw (head_same f.head 60 f.tail w (sym f.is ∙ h)) refl) f.no_tag
 
 -- an element in two readings: its children and what stands behind it
 element_parts : (e : Element) (u t x : List ℕ) → (u ++ (end_tag_of e ++ t)) ++ x ≡ u ++ (end_tag_of e ++ (t ++ x))
@@ -176,7 +156,7 @@ one_reading (spells_text {c} {s} {rest} {t} plain alone more) spells_nothing x y
     true_is_no_false _ q (ap is_closer (sym h) ∙ ap is_closer (append_assoc (escaped (c ∷ s)) t x) ∙ text_is_no_closer c s (t ++ x))
 one_reading (spells_text {c} {s} {rest} {t} plain alone more) (spells_text {c = d} {s = r} {rest = back} {t = w} plain' alone' more') x y p q h =
     let cut = run_cut is_tag_start (escaped (c ∷ s)) (escaped (d ∷ r)) (t ++ x) (w ++ y) (no_tag_in_escaped (c ∷ s)) (no_tag_in_escaped (d ∷ r))
-        (text_stops more x alone p) (text_stops more' y alone' q) (sym (append_assoc (escaped (c ∷ s)) t x) ∙ h ∙ append_assoc (escaped (d ∷ r)) w y) in
+    (text_stops more x alone p) (text_stops more' y alone' q) (sym (append_assoc (escaped (c ∷ s)) t x) ∙ h ∙ append_assoc (escaped (d ∷ r)) w y) in
     let behind = one_reading more more' x y p q cut.1 in
     (ap (λ z. text_first z rest) (escaped_alike (c ∷ s) (d ∷ r) cut.0) ∙ ap (text_first (d ∷ r)) behind.0, behind.1)
 one_reading (spells_text {c} {s} {rest} {t} plain alone more) (spells_empty {e} {rest = back} {t = w} empty more') x y p q h =

@@ -1,6 +1,6 @@
 use Rattle.std.proofs.Common.{◌≡◌, ℕ, List, [], ◌∷◌, ◌++◌, refl, ap, sym, ◌∙◌, Bool, true, false, ◌&&◌, ◌||◌, not, append_assoc, append-nil, cond}
-use Rattle.pur_tree.specs.declared.element.Element.{Element}
-use Rattle.pur_tree.specs.Elements.{is_empty_element}
+use Rattle.pur_names.specs.declared.elements.Element.{Element}
+use Rattle.pur_modules.specs.Contents.{is_empty_element}
 use Rattle.pur_tree.specs.Nodes.{Nodes, no_nodes, text_first, elem_first, is_sound, is_joined, has_no_nodes}
 use Rattle.pur_tree.specs.Building.{ends_with_text}
 use Rattle.pur_tree.specs.Tokens.{Token, text_token, start_token, end_token, empty_token, tokens_of_nodes, opening_of, join_token, joined}

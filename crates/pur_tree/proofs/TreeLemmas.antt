@@ -1,7 +1,7 @@
 use Rattle.std.proofs.Common.{◌≡◌, ℕ, List, [], ◌∷◌, ◌++◌, length, refl, ap, sym, ◌∙◌, Bool, true, false, ◌&&◌, ◌||◌, not, nat_lt, cond, append_assoc, append-nil}
 use Rattle.std.specs.List.{list_all}
-use Rattle.pur_tree.specs.declared.element.Element.{Element}
-use Rattle.pur_tree.specs.Elements.{is_empty_element}
+use Rattle.pur_names.specs.declared.elements.Element.{Element}
+use Rattle.pur_modules.specs.Contents.{is_empty_element}
 use Rattle.pur_tree.specs.Nodes.{Nodes, no_nodes, text_first, elem_first, nodes_append, is_sound, is_joined, starts_with_text, has_no_nodes}
 use Rattle.pur_tree.specs.Tokens.{Token, text_token, start_token, end_token, empty_token, tokens_of_nodes, opening_of, closing_of, Levels, with_token, levels_of, tree_of, first_level, other_levels, join_token, joined, IsBalanced, balanced_nothing, balanced_text, balanced_empty, balanced_start, balanced_stop}
 use Rattle.pur_tree.proofs.NodesLemmas.{left_of, right_of, both, or_true, nodes_append-none}

@@ -1,9 +1,9 @@
 use Rattle.std.specs.Prelude.{ℕ, ◌≤◌, List, [], ◌∷◌, ◌++◌, ◌≡◌, length, Bool, true, false, not}
-use Rattle.pur_tree.specs.declared.element.Element.{Element}
-use Rattle.pur_tree.specs.declared.element.Element.TheVariants.{P}
+use Rattle.pur_names.specs.declared.elements.Element.{Element}
+use Rattle.pur_names.specs.declared.elements.Element.TheVariants.{P}
 use Rattle.pur_tree.specs.declared.node.Node.{Node}
 use Rattle.pur_tree.specs.declared.builder.Outer.{Outer}
-use Rattle.pur_tree.specs.Elements.{is_empty_element}
+use Rattle.pur_modules.specs.Contents.{is_empty_element}
 use Rattle.pur_tree.specs.Nodes.{Nodes, no_nodes, text_first, elem_first, nodes_append, level_below, is_sound, is_joined}
 use Rattle.pur_tree.specs.Image.{nodes_of}
 use Rattle.pur_tree.specs.Tokens.{Token, opening_of, closing_of, tokens_of_nodes}

@@ -1,5 +1,4 @@
 pub mod Building
-pub mod Elements
 pub mod Forests
 pub mod Image
 pub mod Laws

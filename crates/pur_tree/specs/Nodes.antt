@@ -1,6 +1,6 @@
 use Rattle.std.specs.Prelude.{ℕ, ◌+◌, List, length, Bool, true, false, max, ◌&&◌, ◌||◌, not, nat_lt}
-use Rattle.pur_tree.specs.declared.element.Element.{Element}
-use Rattle.pur_tree.specs.Elements.{is_empty_element}
+use Rattle.pur_names.specs.declared.elements.Element.{Element}
+use Rattle.pur_modules.specs.Contents.{is_empty_element}
 
 -- a list of nodes as contracts see it: none, or a first node and the nodes after it;
 -- a text is the list of its characters, an element has a name and its children

@@ -2,18 +2,19 @@ use Rattle.std.specs.Prelude.{ℕ, List, [], ◌∷◌, ◌++◌, ◌≡◌, Boo
 use Rattle.std.specs.List.{list_all}
 use Rattle.pur_text.specs.Characters.{is_allowed}
 use Rattle.pur_text.specs.Escapes.{escaped}
-use Rattle.pur_tree.specs.declared.element.Element.{Element}
-use Rattle.pur_tree.specs.Elements.{name_of, is_empty_element}
+use Rattle.pur_names.specs.declared.elements.Element.{Element}
+use Rattle.pur_names.specs.Elements.{element_name}
+use Rattle.pur_modules.specs.Contents.{is_empty_element}
 use Rattle.pur_tree.specs.Nodes.{Nodes, no_nodes, text_first, elem_first, starts_with_text}
 
 abbrev pub start_tag_of : Element → List ℕ
-start_tag_of e = codes "<" ++ (name_of e ++ codes ">")
+start_tag_of e = codes "<" ++ (element_name e ++ codes ">")
 
 abbrev pub end_tag_of : Element → List ℕ
-end_tag_of e = codes "</" ++ (name_of e ++ codes ">")
+end_tag_of e = codes "</" ++ (element_name e ++ codes ">")
 
 abbrev pub empty_tag_of : Element → List ℕ
-empty_tag_of e = codes "<" ++ (name_of e ++ codes " />")
+empty_tag_of e = codes "<" ++ (element_name e ++ codes " />")
 
 -- the text that nodes are spelled as (XML 1.0 in one of its spellings): an EMPTY element is one empty tag
 -- with a space before its slash, any other element its start tag, its children and its end tag; in a text `&`,

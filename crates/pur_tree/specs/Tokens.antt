@@ -1,6 +1,6 @@
 use Rattle.std.specs.Prelude.{ℕ, List, [], ◌∷◌, ◌++◌, ◌≡◌, cond, true, false}
-use Rattle.pur_tree.specs.declared.element.Element.{Element}
-use Rattle.pur_tree.specs.Elements.{is_empty_element}
+use Rattle.pur_names.specs.declared.elements.Element.{Element}
+use Rattle.pur_modules.specs.Contents.{is_empty_element}
 use Rattle.pur_tree.specs.Nodes.{Nodes, no_nodes, text_first, elem_first}
 
 -- a token of a document written out flat: a text, or the start tag, the end tag or the empty tag of an element

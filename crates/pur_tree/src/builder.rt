@@ -5,9 +5,9 @@ ghost use Rattle.pur_tree.specs.Nodes.{nodes_append, is_joined};
 ghost use Rattle.pur_tree.specs.Image.{nodes_of};
 ghost use Rattle.pur_tree.specs.Tokens.{opening_of, closing_of, text_token, joined, IsTreeOf};
 
-use crate::element::Element;
 use crate::forest::Forest;
 use crate::node::{Elem, Node};
+use pur_names::Element;
 use std::alloc::{AllocError, Global};
 use std::marker::Model;
 use std::mem;

@@ -9,7 +9,6 @@
 #![tactic(auto)]
 
 mod builder;
-mod element;
 mod forest;
 mod laws;
 mod node;
@@ -17,7 +16,6 @@ mod node;
 mod tests;
 
 pub use builder::Builder;
-pub use element::Element;
 pub use forest::Forest;
 pub use laws::{has_one_tree, has_spelling, has_tree, spelled_as_itself, spells_at_most_one};
 pub use node::{Elem, Node};

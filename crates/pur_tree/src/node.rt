@@ -1,4 +1,4 @@
-use crate::element::Element;
+use pur_names::Element;
 
 /// A node of a tree: a text or an element.
 #[cycle(node)]

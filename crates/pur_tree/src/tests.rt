@@ -1,6 +1,7 @@
 //! A tree built with ample memory.
 
-use crate::{Builder, Element, Node};
+use crate::{Builder, Node};
+use pur_names::Element;
 use std::test::Fail;
 
 #[test]
