@@ -1,0 +1,4 @@
+pub mod ClosingLemmas
+pub mod FragmentLemmas
+pub mod GoodLemmas
+pub mod ValidLemmas

@@ -1,0 +1,4 @@
+pub mod Closing
+pub mod Good
+pub mod Laws
+pub mod Purified
