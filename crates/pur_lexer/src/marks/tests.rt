@@ -42,21 +42,13 @@ fn reads_marks(rt: HostRuntime) -> Result<(), Fail> {
             "a &copy; &nope; > &#x41;",
             "'a \u{A9} &nope; > A'",
         ),
-        (
-            "an_escaped_tag_is_text",
-            "&amp;lt;p&gt;",
-            "'&lt;p>'",
-        ),
+        ("an_escaped_tag_is_text", "&amp;lt;p&gt;", "'&lt;p>'"),
         (
             "a_carriage_return_gives_nothing",
             "&#13;&#x41;&#65",
             "'A&#65'",
         ),
-        (
-            "a_text_that_gives_nothing",
-            "<p>&#13;</p>",
-            "[start][end]",
-        ),
+        ("a_text_that_gives_nothing", "<p>&#13;</p>", "[start][end]"),
         (
             "characters_past_ascii",
             "\u{E9}<p>\u{1F600}&#x1F600;</p>",

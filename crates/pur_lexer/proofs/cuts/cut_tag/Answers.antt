@@ -1,5 +1,5 @@
 -- Each tag by its lemma.
-use Rattle.std.proofs.Common.{◌≡◌, ◌∷◌, ◌++◌, ◌∙◌, ap, Some, None, codes, refl}
+use Rattle.std.proofs.Common.{◌∷◌, ◌∙◌, ap, Some, None, codes, refl}
 use Rattle.std.specs.Str.{chars}
 use Rattle.pur_entities.proofs.CutLemmas.{if_none}
 use Rattle.pur_lexer.specs.Marks.{marks_of}

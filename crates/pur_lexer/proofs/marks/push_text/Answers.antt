@@ -1,5 +1,7 @@
 -- What the text is decoded to is a mark, unless it is empty.
-use Rattle.std.proofs.Common.{◌≡◌, ◌∷◌, ◌++◌, [], map, ap, sym, ◌∙◌, append-nil, string_bytes}
+use Rattle.std.proofs.Common.{◌∷◌, ◌++◌, [], map, ap, sym, ◌∙◌, append-nil, string_bytes, true≢false}
+use Rattle.std.specs.Prelude.{◌==◌}
+use Rattle.std.proofs.lemmas.Bool.{eqb-true}
 use Rattle.std.proofs.lemmas.List.{map-append}
 use Rattle.std.proofs.lemmas.Str.{IsUtf8-string_bytes}
 use Rattle.pur_lexer.specs.declared.marks.Mark.TheVariants.{Text}
@@ -13,10 +15,16 @@ returns-in_ok-push c =
     let marks = c.args.marks.now.items in
     ap (map plain_mark) c.in_ok-push.ensures.items
     ∙ map-append plain_mark marks (Text text ∷ [])
-    ∙ ap (λ ms. map plain_mark marks ++ ms) (sym (text_marked (string_bytes text) (IsUtf8-string_bytes text) ?) ∙ ap marks_of_text c.in_ok-text.ensures.text)
+    ∙ ap (λ ms. map plain_mark marks ++ ms)
+    (sym (text_marked (string_bytes text) (IsUtf8-string_bytes text) (λ none.
+    true≢false (sym (ap (λ n. n == 0) (text.bytes.ok.0 ∙ none)) ∙ sym c.if-not-is_empty.ensures)))
+    ∙ ap marks_of_text c.in_ok-text.ensures.text)
 
 pub returns-else-not-is_empty : goal.returns-else-not-is_empty
 returns-else-not-is_empty c =
     let text = c.in_ok-text.text in
     let marks = map plain_mark c.args.marks.now.items in
-    sym (append-nil marks) ∙ ap (λ ms. marks ++ ms) (sym (nothing_marked (string_bytes text) ?) ∙ ap marks_of_text c.in_ok-text.ensures.text)
+    sym (append-nil marks)
+    ∙ ap (λ ms. marks ++ ms)
+    (sym (nothing_marked (string_bytes text) (sym text.bytes.ok.0 ∙ eqb-true _ _ (sym c.if-not-is_empty.ensures)))
+    ∙ ap marks_of_text c.in_ok-text.ensures.text)
