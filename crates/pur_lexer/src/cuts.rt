@@ -1,40 +1,37 @@
-// The front of a text, cut from what follows it.
-ghost use Rattle.std.specs.Prelude.{◌≡◌, ◌<◌, length};
-ghost use Rattle.pur_lexer.specs.Cuts.{marks_by, IsCutOf};
-ghost use Rattle.pur_lexer.specs.Marks.{marks_of};
+// A text cut at its tags.
+ghost use Rattle.std.specs.Prelude.{◌≡◌, ◌++◌, ◌∷◌, ◌≤◌, length, option_map, IsTrue, IfSome, IfNone};
+ghost use Rattle.std.specs.List.{list_all};
+ghost use Rattle.std.specs.Str.{chars, IsUtf8};
+ghost use Rattle.pur_lexer.specs.Marks.{plain_mark, is_text_character, marks_of};
 
-use crate::plain::plain_len;
+use crate::marks::Mark;
+use memchr::memchr;
 
-// What begins a text, each with what follows it.
-pub enum Cut<'a> {
-    Open(&'a [u8]),
-    Close(&'a [u8]),
-    Break(&'a [u8]),
-    // A run of text, as long as it goes.
-    Text(&'a [u8], &'a [u8]),
-    // Nothing that is built.
-    Unbuilt,
+// The text before the first `<`, and the text behind it.
+pub fn cut_at_tag(text: &str) -> Option<(&str, &str)>
+    ensures text { IfSome result (λ parts. IsUtf8 parts.0.now × IsUtf8 parts.1.now) }
+    ensures parts { IfSome result (λ parts. text.now ≡ parts.0.now ++ 0x3C ∷ parts.1.now) }
+    ensures run { IfSome result (λ parts. IsTrue (list_all is_text_character parts.0.now)) }
+    ensures none { IfNone result (IsTrue (list_all is_text_character text.now)) }
+{
+    let place = memchr(b'<', text.as_bytes())?;
+    let (run, tag) = text.split_at(place);
+    Some((run, tag.strip_prefix('<')?))
 }
 
-// The front of a text, which isn't empty.
-pub fn cut_front(text: &[u8]) -> Cut<'_>
-    requires { 0 < length text.now }
-    ensures marks { marks_of text.now ≡ marks_by result }
-    ensures parts { IsCutOf result (length text.now) }
+// The tag that a `<` begins before this text, and the text behind that tag, if it is built.
+pub fn cut_tag(text: &str) -> Option<(Mark, &str)>
+    ensures text { IfSome result (λ cut. IsUtf8 cut.1.now) }
+    ensures shorter { IfSome result (λ cut. length cut.1.now ≤ length text.now) }
+    ensures some { IfSome result (λ cut. marks_of (0x3C ∷ chars text.now) ≡ option_map (λ ms. plain_mark cut.0 ∷ ms) (marks_of (chars cut.1.now))) }
+    ensures none { IfNone result (marks_of (0x3C ∷ chars text.now) ≡ None) }
 {
-    if let Some(rest) = text.strip_prefix(b"<p>") {
-        return Cut::Open(rest);
+    if let Some(behind) = text.strip_prefix("p>") {
+        return Some((Mark::Open, behind));
     }
-    if let Some(rest) = text.strip_prefix(b"</p>") {
-        return Cut::Close(rest);
+    if let Some(behind) = text.strip_prefix("/p>") {
+        return Some((Mark::Close, behind));
     }
-    if let Some(rest) = text.strip_prefix(b"<br />") {
-        return Cut::Break(rest);
-    }
-    let size = plain_len(text);
-    if size == 0 {
-        return Cut::Unbuilt;
-    }
-    let (run, rest) = text.split_at(size);
-    Cut::Text(run, rest)
+    let behind = text.strip_prefix("br />")?;
+    Some((Mark::Break, behind))
 }

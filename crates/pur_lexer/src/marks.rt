@@ -1,14 +1,16 @@
 // The marks of a text, and how they are read.
-ghost use Rattle.std.specs.Prelude.{◌≡◌, map, option_map, string_bytes, IfOk, IsAscii};
-ghost use Rattle.pur_lexer.specs.Marks.{plain_mark, marks_of, ReadingInvertsSpelling};
+ghost use Rattle.std.specs.Prelude.{◌≡◌, ◌++◌, map, option_map, string_bytes, chars, IfOk, OnOk};
+ghost use Rattle.pur_entities.specs.References.{decoded};
+ghost use Rattle.pur_lexer.specs.Marks.{plain_mark, marks_of, marks_of_text, SpellingIsRead};
 
-use crate::cuts::{Cut, cut_front};
+use crate::cuts::{cut_at_tag, cut_tag};
+use pur_entities::decode;
 use std::alloc::{AllocError, Global};
 
 /// What a text is made of.
 #[derive(Drop)]
 pub enum Mark {
-    /// A run of text, which is never empty; no two texts are neighbours.
+    /// A run of text with its references read, which is never empty; no two texts are neighbours.
     Text(String),
     /// The start tag `<p>`.
     Open,
@@ -18,53 +20,46 @@ pub enum Mark {
     Break,
 }
 
-/// The marks of a text in order, or None where the text isn't built: where a byte is none of TAB, LF and 20 to 7E, or is `&`,
-/// a `<` begins none of `<p>`, `</p>` and `<br />`, or a `>` ends none of these three. Tags are matched to the byte, in lower case.
+/// The marks of a text in order, or None where the text isn't built: where a `<` begins none of `<p>`, `</p>` and `<br />`. Tags
+/// are matched to the letter, in lower case.
+///
+/// All else is text, in which references are read (XML 1.0, section 4.1) as by `pur_entities::decode`. A run of text that this
+/// leaves empty, as `&#13;`, is no mark.
 ///
 /// An error says that memory ran out.
-pub fn read_marks(alloc: Global, bytes: &[u8]) -> Result<Option<Vec<Mark>>, AllocError>
-    ensures marks { IfOk result (λ marks. option_map (λ marks. map plain_mark marks.items) marks ≡ marks_of bytes.now) }
+pub fn read_marks(alloc: Global, text: &str) -> Result<Option<Vec<Mark>>, AllocError>
+    ensures marks { IfOk result (λ marks. option_map (λ marks. map plain_mark marks.items) marks ≡ marks_of (chars text.now)) }
 {
     let mut marks = Vec::new(alloc);
-    let mut rest = bytes;
-    'reading: while !rest.is_empty() {
-        match cut_front(rest) {
-            Cut::Open(more) => {
-                marks.push(Mark::Open)?;
-                rest = more;
+    let mut rest = text;
+    'reading: while let Some((run, tag)) = cut_at_tag(rest) {
+        push_text(alloc, &mut marks, run)?;
+        match cut_tag(tag) {
+            Some((mark, behind)) => {
+                marks.push(mark)?;
+                rest = behind;
             }
-            Cut::Close(more) => {
-                marks.push(Mark::Close)?;
-                rest = more;
-            }
-            Cut::Break(more) => {
-                marks.push(Mark::Break)?;
-                rest = more;
-            }
-            Cut::Text(run, more) => {
-                marks.push(Mark::Text(text_of(alloc, run)?))?;
-                rest = more;
-            }
-            Cut::Unbuilt => return Ok(None),
+            None => return Ok(None),
         }
     }
+    push_text(alloc, &mut marks, rest)?;
     Ok(Some(marks))
 }
 
-/// Reading undoes spelling: the marks of a text are those that can stand and spell it, and a text that no such marks spell has none.
-pub fn reading_inverts_spelling()
-    ensures { ReadingInvertsSpelling }
+/// Reading undoes spelling: what marks that can stand spell is read as these marks, so no others that can stand spell it.
+pub fn spelling_is_read()
+    ensures { SpellingIsRead }
 {}
 
-// A run of plain text, owned.
-fn text_of(alloc: Global, run: &[u8]) -> Result<String, AllocError>
-    requires { IsAscii run.now }
-    ensures { IfOk result (λ text. string_bytes text ≡ run.now) }
+// Reads the references of a run of text, and puts what it gives behind the marks, if it gives anything.
+fn push_text(alloc: Global, marks: &mut Vec<Mark>, run: &str) -> Result<(), AllocError>
+    ensures { OnOk result (map plain_mark marks.new.items ≡ map plain_mark marks.old.items ++ marks_of_text (decoded (chars run.now))) }
 {
-    match std::str::from_utf8(run) {
-        Ok(text) => text.to_string(alloc),
-        Err(_) => unreachable!(),
+    let text = decode(alloc, run)?;
+    if !text.is_empty() {
+        marks.push(Mark::Text(text))?;
     }
+    Ok(())
 }
 
 #[cfg(test)]

@@ -22,25 +22,42 @@ fn shown(alloc: Global, marks: &[Mark]) -> Result<String, AllocError> {
 
 #[test]
 fn reads_marks(rt: HostRuntime) -> Result<(), Fail> {
-    let rows: [(&str, &[u8], &str); 7] = [
-        ("nothing", b"", ""),
-        ("a_text", b"Hello", "'Hello'"),
-        ("two_paragraphs", b"<p>a<p>b", "[start]'a'[start]'b'"),
-        ("an_end_tag_first", b"</p>a<br />b", "[end]'a'[break]'b'"),
+    let rows: [(&str, &str, &str); 12] = [
+        ("nothing", "", ""),
+        ("a_text", "Hello", "'Hello'"),
+        ("two_paragraphs", "<p>a<p>b", "[start]'a'[start]'b'"),
+        ("an_end_tag_first", "</p>a<br />b", "[end]'a'[break]'b'"),
         (
             "text_around_a_paragraph",
-            b"x<p>y</p>z</p>",
+            "x<p>y</p>z</p>",
             "'x'[start]'y'[end]'z'[end]",
         ),
         (
             "tags_alone",
-            b"<p></p><br /><br />",
+            "<p></p><br /><br />",
             "[start][end][break][break]",
         ),
-        ("the_ends_of_each_range", b"\t\n %';=?~", "'\t\n %';=?~'"),
+        (
+            "references_and_none",
+            "a &copy; &nope; > &#x41;",
+            "'a \u{A9} &nope; > A'",
+        ),
+        ("an_escaped_tag_is_text", "&amp;lt;p&gt;", "'&lt;p>'"),
+        (
+            "a_carriage_return_gives_nothing",
+            "&#13;&#x41;&#65",
+            "'A&#65'",
+        ),
+        ("a_text_that_gives_nothing", "<p>&#13;</p>", "[start][end]"),
+        (
+            "characters_past_ascii",
+            "\u{E9}<p>\u{1F600}&#x1F600;</p>",
+            "'\u{E9}'[start]'\u{1F600}\u{1F600}'[end]",
+        ),
+        ("a_tag_that_ends_twice", "<p>>", "[start]'>'"),
     ];
-    for (name, bytes, want) in rows {
-        let read = read_marks(rt.alloc(), bytes)?;
+    for (name, text, want) in rows {
+        let read = read_marks(rt.alloc(), text)?;
         assert!(rt; read.is_some(), "at {name}");
         if let Some(marks) = read {
             let got = shown(rt.alloc(), marks.as_slice())?;
@@ -52,23 +69,19 @@ fn reads_marks(rt: HostRuntime) -> Result<(), Fail> {
 
 #[test]
 fn refuses_what_is_not_built(rt: HostRuntime) -> Result<(), Fail> {
-    let rows: [(&str, &[u8]); 13] = [
-        ("a_greater_than_sign", b"a > b"),
-        ("an_ampersand", b"a&b"),
-        ("a_space_in_a_start_tag", b"<p >"),
-        ("an_upper_case_name", b"<P>"),
-        ("a_break_without_its_space", b"<br/>"),
-        ("another_element", b"a<b>c"),
-        ("an_open_tag_at_the_end", b"a</p"),
-        ("a_less_than_sign_at_the_end", b"a<"),
-        ("a_byte_past_ascii", b"a\x80"),
-        ("the_delete_character", b"a\x7F"),
-        ("a_carriage_return", b"a\r\n"),
-        ("a_null", b"\0"),
-        ("a_tag_that_ends_twice", b"<p>>"),
+    let rows: [(&str, &str); 9] = [
+        ("an_upper_case_name", "<P>"),
+        ("a_break_without_its_space", "<br/>"),
+        ("a_space_before_the_name", "< p>"),
+        ("a_less_than_sign_at_the_end", "a<"),
+        ("a_space_in_a_start_tag", "<p >"),
+        ("another_element", "a<b>c"),
+        ("an_open_tag_at_the_end", "a</p"),
+        ("two_less_than_signs", "<<p>"),
+        ("a_character_past_ascii", "<\u{E9}>"),
     ];
-    for (name, bytes) in rows {
-        assert!(rt; read_marks(rt.alloc(), bytes)?.is_none(), "at {name}");
+    for (name, text) in rows {
+        assert!(rt; read_marks(rt.alloc(), text)?.is_none(), "at {name}");
     }
     Ok(())
 }
