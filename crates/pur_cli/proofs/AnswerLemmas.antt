@@ -1,11 +1,11 @@
-use Rattle.std.proofs.Common.{◌≡◌, ℕ, List, [], ◌∷◌, length, refl, Bool, true, false, nat_lt, if◌then◌else◌, Option, Some, None, IfSome}
+use Rattle.std.proofs.Common.{◌≡◌, ℕ, List, [], ◌∷◌, length, refl, sym, ◌∙◌, Bool, true, false, nat_lt, if◌then◌else◌, Option, Some, None, IfSome}
 use Rattle.pur_io.specs.Texts.{Name, text_named}
 use Rattle.pur_cli.specs.declared.status.Status.TheVariants.{Done, InputTooLong}
-use Rattle.pur_cli.specs.Good.{IsGood}
+use Rattle.pur_engine.specs.Good.{IsGood}
 use Rattle.pur_cli.specs.Limits.{input_limit}
-use Rattle.pur_cli.specs.Purified.{purified}
+use Rattle.pur_engine.specs.Purified.{purified}
 use Rattle.pur_cli.specs.Statuses.{answer_by, answer_of, refusal_of}
-use Rattle.pur_cli.proofs.GoodLemmas.{good-purified, purified-good, purified-twice}
+use Rattle.pur_engine.proofs.GoodLemmas.{good-purified, purified-good, purified-twice}
 
 by_done : (found : Option (List ℕ)) → (answer_by found).status ≡ Done → found ≡ Some (answer_by found).text
 by_done None h = absurd (cc)
@@ -26,7 +26,9 @@ pub done_is_good : {A : Type 0} (words : List A) (input : List ℕ) → (answer_
 done_is_good words input h = good-purified input (answer_of words input).text (done_is_purified words input h)
 
 pub done_is_unchanged : {A : Type 0} (words : List A) (input : List ℕ) → (answer_of words input).status ≡ Done → IsGood input → (answer_of words input).text ≡ input
-done_is_unchanged words input h g = purified-good input (answer_of words input).text g (done_is_purified words input h)
+done_is_unchanged words input h g =
+    let same : Some (answer_of words input).text ≡ Some input = sym (done_is_purified words input h) ∙ purified-good input g in
+    let text : (answer_of words input).text ≡ input = cc in text
 
 pub done_is_settled : {A : Type 0} (words : List A) (input : List ℕ) → (answer_of words input).status ≡ Done
     → purified (answer_of words input).text ≡ Some (answer_of words input).text

@@ -4,7 +4,7 @@ use Rattle.pur_io.specs.Taken.{taken_more}
 use Rattle.pur_cli.specs.declared.status.Status.{Status}
 use Rattle.pur_cli.specs.declared.status.Status.TheVariants.{Done, OutOfMemory, BadCommandLine, InputTooLong, CannotRead, CannotWrite, NotBuilt}
 use Rattle.pur_cli.specs.Limits.{input_limit}
-use Rattle.pur_cli.specs.Purified.{purified}
+use Rattle.pur_engine.specs.Purified.{purified}
 
 -- the status as the number that the program ends with
 abbrev pub code_of : Status → ℕ

@@ -3,16 +3,16 @@ ghost use Rattle.std.specs.Prelude.{◌≡◌, ◌≢◌, ◌↔◌, ◌⊎◌, 
 ghost use Rattle.pur_io.specs.Faults.{Rose};
 ghost use Rattle.pur_io.specs.Taken.{taken_more};
 ghost use Rattle.pur_io.specs.Texts.{text_named};
-ghost use Rattle.pur_cli.specs.Good.{IsGood};
+ghost use Rattle.pur_engine.specs.Good.{IsGood};
 ghost use Rattle.pur_cli.specs.Limits.{input_limit};
-ghost use Rattle.pur_cli.specs.Purified.{purified};
+ghost use Rattle.pur_engine.specs.Purified.{purified};
 ghost use Rattle.pur_cli.specs.Statuses.{code_of, answer_of, answer_to, TookLine, TookWholeLine};
 ghost use Rattle.pur_cli.specs.Writing.{TookFront};
 
-use crate::engine::purify;
 use crate::input::{ReadFault, read_input};
 use crate::output::{complain, write_all};
 use crate::status::Status;
+use pur_engine::purify_part;
 use pur_io::{Failed, Shelf, Sink};
 use std::alloc::Global;
 
@@ -124,7 +124,7 @@ fn filter<H: Shelf, O: Sink>(alloc: Global, shelf: &mut H, out: &mut O) -> Statu
         Err(ReadFault::TooLong) => return Status::InputTooLong,
         Err(ReadFault::Memory) => return Status::OutOfMemory,
     };
-    let text = match purify(alloc, input.as_slice()) {
+    let text = match purify_part(alloc, input.as_slice()) {
         Ok(Some(text)) => text,
         Ok(None) => return Status::NotBuilt,
         Err(_) => return Status::OutOfMemory,

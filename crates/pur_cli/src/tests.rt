@@ -48,31 +48,19 @@ fn run_over(
 
 #[test]
 fn closes_paragraphs(rt: HostRuntime) -> Result<(), Fail> {
-    let rows: [(&str, &[u8], u8, &[u8]); 10] = [
+    let rows: [(&str, &[u8], u8, &[u8]); 13] = [
         ("empty_input", b"", 0, b""),
         ("hello", b"Hello", 0, b"Hello"),
-        (
-            "a_paragraph_closes_another",
-            b"<p>a<p>b",
-            0,
-            b"<p>a</p><p>b</p>",
-        ),
-        (
-            "a_stray_end_tag_is_dropped",
-            b"</p>a<br />b",
-            0,
-            b"a<br />b",
-        ),
-        (
-            "text_round_a_paragraph",
-            b"x<p>y</p>z</p>",
-            0,
-            b"x<p>y</p>z",
-        ),
+        ("a_paragraph_closes_another", b"<p>a<p>b", 0, b"<p>a</p><p>b</p>"),
+        ("a_stray_end_tag_is_dropped", b"</p>a<br />b", 0, b"a<br />b"),
+        ("text_round_a_paragraph", b"x<p>y</p>z</p>", 0, b"x<p>y</p>z"),
         ("an_open_paragraph_ends", b"<p>", 0, b"<p></p>"),
         ("texts_join_where_a_tag_was_dropped", b"a</p>b", 0, b"ab"),
-        ("a_greater_than_sign_is_not_built", b"a > b", 9, b""),
-        ("an_ampersand_is_not_built", b"a&b", 9, b""),
+        ("references_are_read", b"a &copy; &nope; > &#x41;", 0, b"a \xC2\xA9 &amp;nope; &gt; A"),
+        ("a_reference_is_read_once", b"&amp;lt;p&gt;", 0, b"&amp;lt;p&gt;"),
+        ("a_refused_character_gives_nothing", b"&#13;&#x41;&#65", 0, b"A&amp;#65"),
+        ("bad_bytes_are_dropped", b"\x41\xC3\x28\x00\x42", 0, b"A(B"),
+        ("a_line_end_of_two_characters", b"a\r\nb", 0, b"a\nb"),
         ("a_space_in_a_tag_is_not_built", b"<p >", 9, b""),
     ];
     for (name, input, status, out) in rows {
