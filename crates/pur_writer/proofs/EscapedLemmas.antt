@@ -1,12 +1,12 @@
 -- The escapes of a text, byte by byte and character by character.
 use Rattle.std.proofs.Common.{◌≡◌, ℕ, zero, suc, ◌<◌, ◌≤◌, Bool, true, false, List, [], ◌∷◌, ◌++◌, length, take, get_or, codes, encode_utf8, encode_utf8_all, refl, sym, ap, subst, ◌∙◌, arith, ⊎_elim, take_all, append-nil, append_assoc}
 use Rattle.std.specs.Prelude.{◌==◌, ◌||◌, not, if◌then◌else◌, Option, Some, None, IfNone}
-use Rattle.std.specs.List.{list_all, flat_map}
-use Rattle.std.proofs.lemmas.Bool.{cases_Bool, and_parts, and_from, eqb-true}
+use Rattle.std.specs.List.{list_all}
+use Rattle.std.proofs.lemmas.Bool.{cases_Bool, and_parts, eqb-true}
 use Rattle.std.proofs.lemmas.Bool.Decides.{nat_tests}
 use Rattle.std.proofs.Math.Utf8.{encode}
 use Rattle.std.proofs.lemmas.Grind.{flat_map-append}
-use Rattle.std.proofs.lemmas.Str.{encodes-append, encode_ascii, inside_one}
+use Rattle.std.proofs.lemmas.Str.{encodes-append, inside_one}
 use Rattle.pur_text.specs.Escapes.{escape, escaped}
 use Rattle.pur_writer.specs.Bytes.{is_special, is_plain}
 

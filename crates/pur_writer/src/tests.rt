@@ -41,6 +41,6 @@ fn writes_elements(rt: HostRuntime) -> Result<(), Fail> {
     builder.enter(Element::Em)?;
     let forest = builder.finish()?;
     let output = write(rt.alloc(), &forest)?;
-    assert_eq!(rt; output.as_slice(), b"<p>x<br /></p><em></em>");
+    assert_eq!(rt; output.as_slice(), b"<p>x<br /></p><em></em>".as_slice());
     Ok(())
 }

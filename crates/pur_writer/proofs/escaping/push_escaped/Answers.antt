@@ -1,5 +1,4 @@
-use Rattle.std.proofs.Common.{◌≡◌, ◌∙◌, ◌++◌, ap, sym}
-use Rattle.pur_text.specs.Escapes.{escaped}
+use Rattle.std.proofs.Common.{◌∙◌, ◌++◌, ap, sym}
 use Rattle.pur_writer.proofs.EscapedLemmas.{run_written, escaped_run}
 use Rattle.pur_writer.proofs.escaping.push_escaped.Goals as goal
 
