@@ -1,4 +1,4 @@
-use Rattle.std.proofs.Common.{◌≡◌, ℕ, List, [], ◌∷◌, ◌++◌, length, refl, ap, sym, ◌∙◌, Bool, true, false, ◌&&◌, ◌||◌, not, IsTrue, arith}
+use Rattle.std.proofs.Common.{◌≡◌, ℕ, List, [], ◌∷◌, ◌++◌, length, refl, ap, sym, ◌∙◌, Bool, true, false, ◌&&◌, IsTrue, arith}
 use Rattle.std.specs.Prelude.{encode_utf8_all}
 use Rattle.std.specs.List.{list_all}
 use Rattle.std.proofs.lemmas.Bool.{lt-ltb}
@@ -11,7 +11,7 @@ use Rattle.pur_tree.specs.Spelling.{spelling_of}
 use Rattle.pur_tree.specs.Tokens.{Token, text_token, start_token, end_token, empty_token, tokens_of_nodes, opening_of, closing_of, join_token, joined, tree_of, IsBalanced, balanced_nothing, balanced_text, balanced_empty, balanced_start, balanced_stop}
 use Rattle.pur_tree.proofs.NodesLemmas.{left_of, right_of, both}
 use Rattle.pur_tree.proofs.TreeLemmas.{tokens-tree_of, tree_of-tokens, joined-balanced}
-use Rattle.pur_engine.specs.Closing.{step, open_elements, is_some_mark, closed_from, closed}
+use Rattle.pur_engine.specs.Closing.{open_elements, is_some_mark, closed_from, closed}
 use Rattle.pur_engine.specs.Purified.{fragment_of}
 
 -- marks that can stand are no empty texts
@@ -107,5 +107,5 @@ standing-tree ms h = standing-nodes (tree_of (closed ms)) (ap (list_all is_stand
 pub written-fragment : (ms : List PlainMark) (n : Nodes) (text : List ℕ) → is_sound n ≡ true → tokens_of_nodes n ≡ closed ms
     → text ≡ encode_utf8_all (spelling_of n) → text ≡ encode_utf8_all (fragment_of ms)
 written-fragment ms n text sound tokens written =
-  let same : n ≡ tree_of (closed ms) = sym (tree_of-tokens n sound) ∙ ap tree_of tokens in
-  written ∙ ap (λ x. encode_utf8_all (spelling_of x)) same
+    let same : n ≡ tree_of (closed ms) = sym (tree_of-tokens n sound) ∙ ap tree_of tokens in
+    written ∙ ap (λ x. encode_utf8_all (spelling_of x)) same

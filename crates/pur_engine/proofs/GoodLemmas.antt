@@ -1,9 +1,8 @@
-use Rattle.std.proofs.Common.{◌≡◌, ℕ, List, [], ◌∷◌, ◌++◌, length, refl, ap, sym, ◌∙◌, subst, Bool, true, false, ◌&&◌, ◌||◌, not, Option, Some, None, option_map, IsTrue, append_assoc, append-nil, arith, ◌==◌, if◌then◌else◌, codes}
+use Rattle.std.proofs.Common.{◌≡◌, ℕ, List, [], ◌∷◌, ◌++◌, length, refl, ap, sym, ◌∙◌, subst, Bool, true, false, ◌&&◌, not, Option, Some, None, option_map, IsTrue, append_assoc, append-nil, arith, ◌==◌, if◌then◌else◌, codes}
 use Rattle.std.specs.Prelude.{encode_utf8_all}
-use Rattle.std.specs.List.{list_all, flat_map}
+use Rattle.std.specs.List.{list_all}
 use Rattle.std.proofs.lemmas.Bool.{lt-ltb}
 use Rattle.std.proofs.lemmas.List.Folds.{list_all-append}
-use Rattle.pur_names.specs.declared.elements.Element.{Element}
 use Rattle.pur_names.specs.declared.elements.Element.TheVariants.{P, Br}
 use Rattle.pur_modules.specs.Contents.{is_empty_element}
 use Rattle.pur_text.specs.Characters.{is_allowed}
@@ -14,15 +13,15 @@ use Rattle.pur_lexer.specs.Marks.{PlainMark, text_mark, open_mark, close_mark, b
 use Rattle.pur_lexer.proofs.MarkLemmas.{marks-well}
 use Rattle.pur_lexer.proofs.SpellingLemmas.{marks_of-spelled_by}
 use Rattle.pur_tree.specs.Building.{ends_with_text}
-use Rattle.pur_tree.specs.Nodes.{Nodes, no_nodes, text_first, elem_first, is_sound, is_joined, has_no_nodes}
-use Rattle.pur_tree.specs.Spelling.{has_allowed_texts, start_tag_of, end_tag_of, empty_tag_of, spelling_of, Spells, spells_nothing, spells_text, spells_empty, spells_element}
+use Rattle.pur_tree.specs.Nodes.{Nodes, no_nodes, text_first, elem_first, is_sound, is_joined}
+use Rattle.pur_tree.specs.Spelling.{has_allowed_texts, end_tag_of, spelling_of, Spells, spells_nothing, spells_text, spells_empty, spells_element}
 use Rattle.pur_tree.specs.Tokens.{Token, text_token, start_token, end_token, empty_token, tokens_of_nodes, joined, tree_of}
 use Rattle.pur_tree.proofs.NodesLemmas.{left_of, right_of, both, or_true}
 use Rattle.pur_tree.proofs.TreeLemmas.{tree_of-tokens, is_some_token, sound-levels, joined-balanced, joined-tree_of}
 use Rattle.pur_tree.proofs.TokensLemmas.{joined-tree, never}
 use Rattle.pur_tree.proofs.SpellingLemmas.{Spells-spelling, spelling-spelled}
-use Rattle.pur_engine.specs.Closing.{step, closed_from, closed}
-use Rattle.pur_engine.specs.Good.{is_valid_in, is_valid, IsGood}
+use Rattle.pur_engine.specs.Closing.{closed_from, closed}
+use Rattle.pur_engine.specs.Good.{IsGood}
 use Rattle.pur_engine.specs.Purified.{fragment_of, purified}
 use Rattle.pur_engine.proofs.FragmentLemmas.{is_standing_token, has_standing, tokens-closed, standing-tree, standing-joined, standing-closed_from, balanced-closed_from}
 use Rattle.pur_engine.proofs.ValidLemmas.{Valid, valid_nothing, valid_text, valid_p, valid_br, Valid-is_valid_in, is_valid_in-Valid, nests, nests-joined, nests-closed_from, valid-nests}
@@ -55,21 +54,24 @@ pub record IsClosedTree (n : Nodes) : Type 0 where
 
 pub closed_tree : (ms : List PlainMark) → IsTrue (can_stand ms) → IsClosedTree (tree_of (closed ms))
 closed_tree ms h =
-  let sound = (sound-levels (joined-balanced (balanced-closed_from false ms)) (some-standing_tokens (closed ms) (standing-joined (closed_from false ms) (standing-closed_from false ms h)))).0 in
-  let nested = ap (λ ts. nests false ts) (append-nil (tokens_of_nodes (tree_of (closed ms))) ∙ tokens-closed ms) ∙ nests-joined false (closed_from false ms) ∙ nests-closed_from false ms in
-  record {
-    sound = sound;
-    joined = joined-tree_of (tree_of (closed ms)) (closed_from false ms) (tokens-closed ms);
-    standing = standing-tree ms h;
-    valid = (valid-nests false (tree_of (closed ms)) [] sound nested).valid }
+    let sound = (sound-levels (joined-balanced (balanced-closed_from false ms)) (some-standing_tokens (closed ms) (standing-joined (closed_from false ms) (standing-closed_from false ms h)))).0 in
+    let nested = ap (λ ts. nests false ts) (append-nil (tokens_of_nodes (tree_of (closed ms))) ∙ tokens-closed ms) ∙ nests-joined false (closed_from false ms) ∙ nests-closed_from false ms in
+    record {
+      sound = sound;
+      joined = joined-tree_of (tree_of (closed ms)) (closed_from false ms) (tokens-closed ms);
+      standing = standing-tree ms h;
+      valid = (valid-nests false (tree_of (closed ms)) [] sound nested).valid;
+    }
 
 -- such a tree is spelled by a good fragment
 pub good-closed_tree : (n : Nodes) → IsClosedTree n → IsGood (encode_utf8_all (spelling_of n))
 good-closed_tree n t = record {
-  nodes = n; text = spelling_of n;
+  nodes = n;
+  text = spelling_of n;
   spelled = Spells-spelling n t.sound t.joined (texts_allowed n t.standing);
   encoded = refl;
-  valid = is_valid_in-Valid t.valid }
+  valid = is_valid_in-Valid t.valid;
+}
 
 -- the marks of an input that has a purification
 pub record HasMarks (input text : List ℕ) : Type 0 where
@@ -87,8 +89,8 @@ marks_of_purified input text e = go (marks_of (cleaned input)) refl e
 -- every purification is a good fragment
 pub good-purified : (input text : List ℕ) → purified input ≡ Some text → IsGood text
 good-purified input text e =
-  let m = marks_of_purified input text e in
-  subst IsGood (sym m.text_is) (good-closed_tree (tree_of (closed m.marks)) (closed_tree m.marks (marks-well (cleaned input) m.marks (cleaned_allowed input) m.read)))
+    let m = marks_of_purified input text e in
+    subst IsGood (sym m.text_is) (good-closed_tree (tree_of (closed m.marks)) (closed_tree m.marks (marks-well (cleaned input) m.marks (cleaned_allowed input) m.read)))
 
 -- the marks that write valid nodes out
 abbrev pub marks_in : {b : Bool} {n : Nodes} → Valid b n → List PlainMark
@@ -108,7 +110,7 @@ unfolding spelled_by
 spelled_by-marks_in valid_nothing = refl
 spelled_by-marks_in (valid_text {b} {s} {n} v) = ap (λ x. escaped s ++ x) (spelled_by-marks_in v)
 spelled_by-marks_in (valid_p {k} {n} v w) =
-  ap (λ x. 60 ∷ 112 ∷ 62 ∷ x) (spelled_by-append (marks_in v) (close_mark ∷ marks_in w)
+    ap (λ x. 60 ∷ 112 ∷ 62 ∷ x) (spelled_by-append (marks_in v) (close_mark ∷ marks_in w)
     ∙ ap (λ x. x ++ (60 ∷ 47 ∷ 112 ∷ 62 ∷ spelled_by (marks_in w))) (spelled_by-marks_in v)
     ∙ ap (λ x. spelling_of k ++ (60 ∷ 47 ∷ 112 ∷ 62 ∷ x)) (spelled_by-marks_in w))
 spelled_by-marks_in (valid_br v) = ap (λ x. 60 ∷ 98 ∷ 114 ∷ 32 ∷ 47 ∷ 62 ∷ x) (spelled_by-marks_in v)
@@ -121,15 +123,15 @@ standing-marks_in valid_nothing ms p j m h = h
 standing-marks_in (valid_text {b} {s} valid_nothing) ms p j m h = both (both (left_of (is_standing_text s) true p) (ap not m)) h
 standing-marks_in (valid_text {b} {s} (valid_text v)) ms p j m h = absurd (cc)
 standing-marks_in (valid_text {b = false} {s} (valid_p {k} {n} v w)) ms p j m h =
-  both (both (left_of (is_standing_text s) (has_standing (elem_first P k n)) p) refl)
+    both (both (left_of (is_standing_text s) (has_standing (elem_first P k n)) p) refl)
     (standing-marks_in (valid_p v w) ms (right_of (is_standing_text s) (has_standing (elem_first P k n)) p) j m h)
 standing-marks_in (valid_text {b} {s} (valid_br {n} v)) ms p j m h =
-  both (both (left_of (is_standing_text s) (has_standing (elem_first Br no_nodes n)) p) refl)
+    both (both (left_of (is_standing_text s) (has_standing (elem_first Br no_nodes n)) p) refl)
     (standing-marks_in (valid_br v) ms (right_of (is_standing_text s) (has_standing (elem_first Br no_nodes n)) p) j m h)
 standing-marks_in (valid_p {k} {n} v w) ms p j m h =
-  ap can_stand (append_assoc (marks_in v) (close_mark ∷ marks_in w) ms)
-  ∙ standing-marks_in v (close_mark ∷ (marks_in w ++ ms)) (left_of (has_standing k) (has_standing n) p) (left_of (is_joined k) (is_joined n) j) (never (ends_with_text k))
-      (standing-marks_in w ms (right_of (has_standing k) (has_standing n) p) (right_of (is_joined k) (is_joined n) j) m h)
+    ap can_stand (append_assoc (marks_in v) (close_mark ∷ marks_in w) ms)
+    ∙ standing-marks_in v (close_mark ∷ (marks_in w ++ ms)) (left_of (has_standing k) (has_standing n) p) (left_of (is_joined k) (is_joined n) j) (never (ends_with_text k))
+    (standing-marks_in w ms (right_of (has_standing k) (has_standing n) p) (right_of (is_joined k) (is_joined n) j) m h)
 standing-marks_in (valid_br v) ms p j m h = standing-marks_in v ms p j m h
 
 -- closing leaves them as they are
@@ -137,7 +139,7 @@ closed-marks_in : {b : Bool} {n : Nodes} (v : Valid b n) (ms : List PlainMark) �
 closed-marks_in valid_nothing ms = refl
 closed-marks_in (valid_text {b} {s} v) ms = ap (λ ts. text_token s ∷ ts) (closed-marks_in v ms)
 closed-marks_in (valid_p {k} {n} v w) ms =
-  ap (λ ts. start_token P ∷ ts) (ap (closed_from true) (append_assoc (marks_in v) (close_mark ∷ marks_in w) ms)
+    ap (λ ts. start_token P ∷ ts) (ap (closed_from true) (append_assoc (marks_in v) (close_mark ∷ marks_in w) ms)
     ∙ closed-marks_in v (close_mark ∷ (marks_in w ++ ms))
     ∙ ap (λ ts. tokens_of_nodes k ++ (end_token P ∷ ts)) (closed-marks_in w ms)
     ∙ sym (append_assoc (tokens_of_nodes k) (end_token P ∷ tokens_of_nodes n) (closed_from false ms)))
@@ -157,32 +159,32 @@ allowed-escaped : (s : List ℕ) → list_all is_allowed s ≡ true → list_all
 unfolding escaped
 allowed-escaped [] h = refl
 allowed-escaped (c ∷ s) h =
-  list_all-append is_allowed (escape c) (escaped s)
-  ∙ both (allowed-escape c (left_of (is_allowed c) (list_all is_allowed s) h)) (allowed-escaped s (right_of (is_allowed c) (list_all is_allowed s) h))
+    list_all-append is_allowed (escape c) (escaped s)
+    ∙ both (allowed-escape c (left_of (is_allowed c) (list_all is_allowed s) h)) (allowed-escaped s (right_of (is_allowed c) (list_all is_allowed s) h))
 
 -- the spelling of valid nodes has allowed characters alone
 allowed-spelling : {b : Bool} {n : Nodes} (v : Valid b n) → has_allowed_texts n ≡ true → list_all is_allowed (spelling_of n) ≡ true
 allowed-spelling valid_nothing h = refl
 allowed-spelling (valid_text {b} {s} {n} v) h =
-  list_all-append is_allowed (escaped s) (spelling_of n)
-  ∙ both (allowed-escaped s (left_of (list_all is_allowed s) (has_allowed_texts n) h)) (allowed-spelling v (right_of (list_all is_allowed s) (has_allowed_texts n) h))
+    list_all-append is_allowed (escaped s) (spelling_of n)
+    ∙ both (allowed-escaped s (left_of (list_all is_allowed s) (has_allowed_texts n) h)) (allowed-spelling v (right_of (list_all is_allowed s) (has_allowed_texts n) h))
 allowed-spelling (valid_p {k} {n} v w) h =
-  list_all-append is_allowed (spelling_of k) (end_tag_of P ++ spelling_of n)
-  ∙ both (allowed-spelling v (left_of (has_allowed_texts k) (has_allowed_texts n) h)) (allowed-spelling w (right_of (has_allowed_texts k) (has_allowed_texts n) h))
+    list_all-append is_allowed (spelling_of k) (end_tag_of P ++ spelling_of n)
+    ∙ both (allowed-spelling v (left_of (has_allowed_texts k) (has_allowed_texts n) h)) (allowed-spelling w (right_of (has_allowed_texts k) (has_allowed_texts n) h))
 allowed-spelling (valid_br v) h = allowed-spelling v h
 
 -- the spelling of such a tree is its own purification
 pub purified-closed_tree : (n : Nodes) → IsClosedTree n → purified (encode_utf8_all (spelling_of n)) ≡ Some (encode_utf8_all (spelling_of n))
 unfolding can_stand
 purified-closed_tree n t =
-  let ms = marks_in t.valid in
-  let standing = subst (λ (x : List PlainMark). IsTrue (can_stand x)) (append-nil ms) (standing-marks_in t.valid [] t.standing t.joined (never (ends_with_text n)) refl) in
-  let clean = cleaned_encoded (spelling_of n) (allowed-spelling t.valid (texts_allowed n t.standing)) in
-  let read = ap marks_of (clean ∙ sym (spelled_by-marks_in t.valid)) ∙ marks_of-spelled_by ms standing in
-  let flat = ap (closed_from false) (sym (append-nil ms)) ∙ closed-marks_in t.valid [] ∙ append-nil (tokens_of_nodes n) in
-  let tokens = ap joined flat ∙ joined-tree n (tokens_of_nodes n) t.joined t.sound refl in
-  ap (option_map (λ m. encode_utf8_all (fragment_of m))) read
-  ∙ ap Some (ap (λ ts. encode_utf8_all (spelling_of (tree_of ts))) tokens ∙ ap (λ x. encode_utf8_all (spelling_of x)) (tree_of-tokens n t.sound))
+    let ms = marks_in t.valid in
+    let standing = subst (λ (x : List PlainMark). IsTrue (can_stand x)) (append-nil ms) (standing-marks_in t.valid [] t.standing t.joined (never (ends_with_text n)) refl) in
+    let clean = cleaned_encoded (spelling_of n) (allowed-spelling t.valid (texts_allowed n t.standing)) in
+    let read = ap marks_of (clean ∙ sym (spelled_by-marks_in t.valid)) ∙ marks_of-spelled_by ms standing in
+    let flat = ap (closed_from false) (sym (append-nil ms)) ∙ closed-marks_in t.valid [] ∙ append-nil (tokens_of_nodes n) in
+    let tokens = ap joined flat ∙ joined-tree n (tokens_of_nodes n) t.joined t.sound refl in
+    ap (option_map (λ m. encode_utf8_all (fragment_of m))) read
+    ∙ ap Some (ap (λ ts. encode_utf8_all (spelling_of (tree_of ts))) tokens ∙ ap (λ x. encode_utf8_all (spelling_of x)) (tree_of-tokens n t.sound))
 
 -- what is spelled by a text
 spelled_sound : {n : Nodes} {t : List ℕ} → Spells n t → is_sound n ≡ true
@@ -206,9 +208,9 @@ spelled_standing (spells_element full inner more) = both (spelled_standing inner
 -- a good fragment is its own purification
 pub purified-good : (input : List ℕ) → IsGood input → purified input ≡ Some input
 purified-good input g =
-  let tree : IsClosedTree g.nodes = record { sound = spelled_sound g.spelled; joined = spelled_joined g.spelled; standing = spelled_standing g.spelled; valid = Valid-is_valid_in false g.nodes g.valid } in
-  let bytes : encode_utf8_all (spelling_of g.nodes) ≡ input = ap encode_utf8_all (spelling-spelled g.spelled) ∙ sym g.encoded in
-  subst (λ (x : List ℕ). purified x ≡ Some x) bytes (purified-closed_tree g.nodes tree)
+    let tree : IsClosedTree g.nodes = record { sound = spelled_sound g.spelled; joined = spelled_joined g.spelled; standing = spelled_standing g.spelled; valid = Valid-is_valid_in false g.nodes g.valid } in
+    let bytes : encode_utf8_all (spelling_of g.nodes) ≡ input = ap encode_utf8_all (spelling-spelled g.spelled) ∙ sym g.encoded in
+    subst (λ (x : List ℕ). purified x ≡ Some x) bytes (purified-closed_tree g.nodes tree)
 
 -- the purification of a purification is itself
 pub purified-twice : (input text : List ℕ) → purified input ≡ Some text → purified text ≡ Some text

@@ -9,7 +9,7 @@ use Rattle.pur_tree.specs.Nodes.{Nodes, no_nodes, text_first, elem_first, is_sou
 use Rattle.pur_tree.specs.Tokens.{Token, text_token, start_token, end_token, empty_token, tokens_of_nodes, join_token, joined}
 use Rattle.pur_tree.proofs.NodesLemmas.{left_of, right_of, both}
 use Rattle.pur_tree.proofs.TokensLemmas.{none_of}
-use Rattle.pur_engine.specs.Closing.{step, closed_from}
+use Rattle.pur_engine.specs.Closing.{closed_from}
 use Rattle.pur_engine.specs.Good.{is_valid_in}
 
 -- valid nodes in a `p`, or in the fragment, by what they are made of
@@ -32,7 +32,7 @@ paragraph false e k n p h v w = subst (λ (z : Element). Valid false (elem_first
 
 break_element : (b : Bool) (e : Element) (k n : Nodes) → e ≡ Br → has_no_nodes k ≡ true → Valid b n → Valid b (elem_first e k n)
 break_element b e k n p h v =
-  subst (λ (z : Element). Valid b (elem_first z k n)) (sym p) (subst (λ (z : Nodes). Valid b (elem_first Br z n)) (sym (none_of k h)) (valid_br v))
+    subst (λ (z : Element). Valid b (elem_first z k n)) (sym p) (subst (λ (z : Nodes). Valid b (elem_first Br z n)) (sym (none_of k h)) (valid_br v))
 
 -- what passes the test is made so
 pub Valid-is_valid_in : (b : Bool) (n : Nodes) → is_valid_in b n ≡ true → Valid b n
@@ -41,14 +41,14 @@ Valid-is_valid_in b (text_first s n) h = valid_text (Valid-is_valid_in b n h)
 Valid-is_valid_in b (elem_first e k n) h = go (same_element e P) refl (Valid-is_valid_in true k) (Valid-is_valid_in b n) h
   where
     go : (p : Bool) → same_element e P ≡ p → (is_valid_in true k ≡ true → Valid true k) → (is_valid_in b n ≡ true → Valid b n)
-       → cond p (not b && (is_valid_in true k && is_valid_in b n)) (same_element e Br && (has_no_nodes k && is_valid_in b n)) ≡ true → Valid b (elem_first e k n)
+        → cond p (not b && (is_valid_in true k && is_valid_in b n)) (same_element e Br && (has_no_nodes k && is_valid_in b n)) ≡ true → Valid b (elem_first e k n)
     go true q f g h =
-      let inner = right_of (not b) (is_valid_in true k && is_valid_in b n) h in
-      paragraph b e k n ((same_element-Decides e P).0 q) (left_of (not b) (is_valid_in true k && is_valid_in b n) h)
+        let inner = right_of (not b) (is_valid_in true k && is_valid_in b n) h in
+        paragraph b e k n ((same_element-Decides e P).0 q) (left_of (not b) (is_valid_in true k && is_valid_in b n) h)
         (f (left_of (is_valid_in true k) (is_valid_in b n) inner)) (g (right_of (is_valid_in true k) (is_valid_in b n) inner))
     go false q f g h =
-      let inner = right_of (same_element e Br) (has_no_nodes k && is_valid_in b n) h in
-      break_element b e k n ((same_element-Decides e Br).0 (left_of (same_element e Br) (has_no_nodes k && is_valid_in b n) h))
+        let inner = right_of (same_element e Br) (has_no_nodes k && is_valid_in b n) h in
+        break_element b e k n ((same_element-Decides e Br).0 (left_of (same_element e Br) (has_no_nodes k && is_valid_in b n) h))
         (left_of (has_no_nodes k) (is_valid_in b n) inner) (g (right_of (has_no_nodes k) (is_valid_in b n) inner))
 
 -- whether tokens are those of valid nodes inside an open `p`, or none, up to its end
@@ -100,29 +100,31 @@ pub valid-nests : (b : Bool) (n : Nodes) (x : List Token) → is_sound n ≡ tru
 valid-nests b no_nodes x s h = record { valid = valid_nothing; behind = h }
 valid-nests b (text_first t n) x s h = let r = valid-nests b n x (right_of _ _ s) h in record { valid = valid_text r.valid; behind = r.behind }
 valid-nests b (elem_first e k n) x s h =
-  go (is_empty_element e) refl (λ c y. valid-nests c k y (left_of (is_sound k) (is_sound n) inner)) (λ c. valid-nests c n x (right_of (is_sound k) (is_sound n) inner)) h
+    go (is_empty_element e) refl (λ c y. valid-nests c k y (left_of (is_sound k) (is_sound n) inner)) (λ c. valid-nests c n x (right_of (is_sound k) (is_sound n) inner)) h
   where
     inner : (is_sound k && is_sound n) ≡ true
     inner = right_of (not (is_empty_element e) || has_no_nodes k) (is_sound k && is_sound n) s
+
     open_case : (c : Bool) → same_element e P ≡ true → not c ≡ true → ((d : Bool) (y : List Token) → nests d (tokens_of_nodes k ++ y) ≡ true → ValidBefore d k y)
-       → ((d : Bool) → nests d (tokens_of_nodes n ++ x) ≡ true → ValidBefore d n x)
-       → nests true ((tokens_of_nodes k ++ (end_token e ∷ tokens_of_nodes n)) ++ x) ≡ true → ValidBefore c (elem_first e k n) x
+        → ((d : Bool) → nests d (tokens_of_nodes n ++ x) ≡ true → ValidBefore d n x)
+        → nests true ((tokens_of_nodes k ++ (end_token e ∷ tokens_of_nodes n)) ++ x) ≡ true → ValidBefore c (elem_first e k n) x
     open_case true p q f g w = absurd (cc)
     open_case false p q f g w =
-      let kids = f true (end_token e ∷ (tokens_of_nodes n ++ x)) (ap (nests true) (sym (append_assoc (tokens_of_nodes k) (end_token e ∷ tokens_of_nodes n) x)) ∙ w) in
-      let rest = g false (right_of (same_element e P) (nests false (tokens_of_nodes n ++ x)) kids.behind) in
-      record { valid = paragraph false e k n ((same_element-Decides e P).0 p) refl kids.valid rest.valid; behind = rest.behind }
+        let kids = f true (end_token e ∷ (tokens_of_nodes n ++ x)) (ap (nests true) (sym (append_assoc (tokens_of_nodes k) (end_token e ∷ tokens_of_nodes n) x)) ∙ w) in
+        let rest = g false (right_of (same_element e P) (nests false (tokens_of_nodes n ++ x)) kids.behind) in
+        record { valid = paragraph false e k n ((same_element-Decides e P).0 p) refl kids.valid rest.valid; behind = rest.behind }
+
     go : (em : Bool) → is_empty_element e ≡ em → ((d : Bool) (y : List Token) → nests d (tokens_of_nodes k ++ y) ≡ true → ValidBefore d k y)
-       → ((d : Bool) → nests d (tokens_of_nodes n ++ x) ≡ true → ValidBefore d n x)
-       → nests b (tokens_of_nodes (elem_first e k n) ++ x) ≡ true → ValidBefore b (elem_first e k n) x
+        → ((d : Bool) → nests d (tokens_of_nodes n ++ x) ≡ true → ValidBefore d n x)
+        → nests b (tokens_of_nodes (elem_first e k n) ++ x) ≡ true → ValidBefore b (elem_first e k n) x
     go true q f g w =
-      let u = left_of (not (is_empty_element e) || has_no_nodes k) (is_sound k && is_sound n) s in
-      let kn : k ≡ no_nodes = none_of k (rw q at u) in
-      let v = rw (kn, q) at w in
-      empty_before b e k n x kn (left_of (same_element e Br) (nests b (tokens_of_nodes n ++ x)) v) (g b (right_of (same_element e Br) (nests b (tokens_of_nodes n ++ x)) v))
+        let u = left_of (not (is_empty_element e) || has_no_nodes k) (is_sound k && is_sound n) s in
+        let kn : k ≡ no_nodes = none_of k (rw q at u) in
+        let v = rw (kn, q) at w in
+        empty_before b e k n x kn (left_of (same_element e Br) (nests b (tokens_of_nodes n ++ x)) v) (g b (right_of (same_element e Br) (nests b (tokens_of_nodes n ++ x)) v))
     go false q f g w =
-      let v = rw q at w in
-      let more = right_of (same_element e P) (not b && nests true ((tokens_of_nodes k ++ (end_token e ∷ tokens_of_nodes n)) ++ x)) v in
-      open_case b (left_of (same_element e P) (not b && nests true ((tokens_of_nodes k ++ (end_token e ∷ tokens_of_nodes n)) ++ x)) v)
+        let v = rw q at w in
+        let more = right_of (same_element e P) (not b && nests true ((tokens_of_nodes k ++ (end_token e ∷ tokens_of_nodes n)) ++ x)) v in
+        open_case b (left_of (same_element e P) (not b && nests true ((tokens_of_nodes k ++ (end_token e ∷ tokens_of_nodes n)) ++ x)) v)
         (left_of (not b) (nests true ((tokens_of_nodes k ++ (end_token e ∷ tokens_of_nodes n)) ++ x)) more) f g
         (right_of (not b) (nests true ((tokens_of_nodes k ++ (end_token e ∷ tokens_of_nodes n)) ++ x)) more)

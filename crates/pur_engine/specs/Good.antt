@@ -1,6 +1,5 @@
 -- What a good fragment is: one spelling, of valid nodes.
 use Rattle.std.specs.Prelude.{ℕ, ◌≡◌, List, Bool, true, false, not, ◌&&◌, cond, encode_utf8_all}
-use Rattle.pur_names.specs.declared.elements.Element.{Element}
 use Rattle.pur_names.specs.declared.elements.Element.TheVariants.{P, Br}
 use Rattle.pur_names.specs.Elements.{same_element}
 use Rattle.pur_tree.specs.Nodes.{Nodes, no_nodes, text_first, elem_first, has_no_nodes}

@@ -1,5 +1,5 @@
 -- What holds of every purification.
-use Rattle.std.specs.Prelude.{ℕ, ◌≡◌, List, Option, Some}
+use Rattle.std.specs.Prelude.{ℕ, ◌≡◌, List, Some}
 use Rattle.pur_engine.specs.Good.{IsGood}
 use Rattle.pur_engine.specs.Purified.{purified}
 

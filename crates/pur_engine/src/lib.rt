@@ -5,6 +5,8 @@
 mod closing;
 mod laws;
 mod passes;
+#[cfg(test)]
+mod tests;
 
 pub use laws::{good_is_unchanged, purified_is_good, twice_is_once};
 pub use passes::purify_part;

@@ -3,13 +3,11 @@ ghost use Rattle.std.specs.Prelude.{◌≡◌, IfOk, IfSome, Some, option_map};
 ghost use Rattle.pur_engine.specs.Good.{IsGood};
 ghost use Rattle.pur_engine.specs.Purified.{purified};
 
-use std::alloc::{AllocError, Global};
-
+use crate::closing::close;
 use pur_lexer::read_marks;
 use pur_text::clean;
 use pur_writer::write;
-
-use crate::closing::close;
+use std::alloc::{AllocError, Global};
 
 /// The purification of an input of any bytes, as UTF-8: the input is cleaned, its references are read, each `p` is
 /// closed, and the fragment is spelled in one way.

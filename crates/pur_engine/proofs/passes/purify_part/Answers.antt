@@ -1,4 +1,4 @@
-use Rattle.std.proofs.Common.{◌≡◌, ◌∙◌, ap, sym, Some, None, map, option_map, IsTrue}
+use Rattle.std.proofs.Common.{◌≡◌, ◌∙◌, ap, sym, Some, None, map}
 use Rattle.pur_lexer.specs.Marks.{plain_mark, marks_of}
 use Rattle.pur_lexer.proofs.MarkLemmas.{marks-well}
 use Rattle.pur_text.specs.Cleaning.{cleaned}
@@ -11,16 +11,16 @@ use Rattle.pur_engine.proofs.passes.purify_part.Goals as goal
 
 pub close-requires : goal.close-requires
 close-requires c =
-  let read = rw (c.as_str.ensures.value, c.in_ok-text.ensures) at c.in_ok-marks.ensures.marks in
-  let marks : marks_of (cleaned c.args.bytes.now) ≡ Some (map plain_mark c.in-Some.marks.items) = sym (rw c.in-Some.is at read) in
-  rw c.as_slice.ensures.value (some-standing (map plain_mark c.in-Some.marks.items) (marks-well (cleaned c.args.bytes.now) _ (cleaned_allowed c.args.bytes.now) marks))
+    let read = rw (c.as_str.ensures.value, c.in_ok-text.ensures) at c.in_ok-marks.ensures.marks in
+    let marks : marks_of (cleaned c.args.bytes.now) ≡ Some (map plain_mark c.in-Some.marks.items) = sym (rw c.in-Some.is at read) in
+    rw c.as_slice.ensures.value (some-standing (map plain_mark c.in-Some.marks.items) (marks-well (cleaned c.args.bytes.now) _ (cleaned_allowed c.args.bytes.now) marks))
 
 pub returns-in-Some-clause-purified : goal.returns-in-Some-clause-purified
 returns-in-Some-clause-purified c =
-  let read = rw (c.as_str.ensures.value, c.in_ok-text.ensures) at c.in_ok-marks.ensures.marks in
-  let marks : marks_of (cleaned c.args.bytes.now) ≡ Some (map plain_mark c.in-Some.marks.items) = sym (rw c.in-Some.is at read) in
-  let sound = rw c.forest.view_is at c.forest.invariant.sound in
-  rw marks (ap Some (written-fragment (map plain_mark c.in-Some.marks.items) (nodes_of c.in_ok-forest-in-Some.forest) _
+    let read = rw (c.as_str.ensures.value, c.in_ok-text.ensures) at c.in_ok-marks.ensures.marks in
+    let marks : marks_of (cleaned c.args.bytes.now) ≡ Some (map plain_mark c.in-Some.marks.items) = sym (rw c.in-Some.is at read) in
+    let sound = rw c.forest.view_is at c.forest.invariant.sound in
+    rw marks (ap Some (written-fragment (map plain_mark c.in-Some.marks.items) (nodes_of c.in_ok-forest-in-Some.forest) _
     sound (rw c.as_slice.ensures.value at c.in_ok-forest-in-Some.ensures.tree) c.in_ok-text-in-Some.ensures))
 
 pub returns-in-Some-clause-good : goal.returns-in-Some-clause-good
@@ -34,7 +34,7 @@ returns-in-Some-clause-twice c = purified-twice c.args.bytes.now c.in_ok-text-in
 
 pub returns-clause-unchanged : goal.returns-clause-unchanged
 returns-clause-unchanged c g =
-  let read = rw (c.as_str.ensures.value, c.in_ok-text.ensures) at c.in_ok-marks.ensures.marks in
-  let marks : marks_of (cleaned c.args.bytes.now) ≡ None = sym (rw c.in-None.is at read) in
-  let own : purified c.args.bytes.now ≡ Some c.args.bytes.now = purified-good c.args.bytes.now g in
-  rw marks at own
+    let read = rw (c.as_str.ensures.value, c.in_ok-text.ensures) at c.in_ok-marks.ensures.marks in
+    let marks : marks_of (cleaned c.args.bytes.now) ≡ None = sym (rw c.in-None.is at read) in
+    let own : purified c.args.bytes.now ≡ Some c.args.bytes.now = purified-good c.args.bytes.now g in
+    rw marks at own
