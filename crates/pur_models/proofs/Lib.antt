@@ -5,3 +5,5 @@ pub mod ExpressionLemmas
 pub mod MatchingLemmas
 pub mod TableLemmas
 pub mod WordLemmas
+pub mod StandingLemmas
+pub mod SameLemmas

@@ -50,7 +50,7 @@ prefix_len-one : (letters run rest : List Child) → length run ≤ 1 → all_am
     → begins_with letters rest ≡ false → prefix_len (has_letter letters) (take 1 (run ++ rest)) ≡ length run
 prefix_len-one letters [] [] short h missing = refl
 prefix_len-one letters [] (c ∷ rest) short h missing = rw missing refl
-prefix_len-one letters (d ∷ []) rest short h missing = rw left_of (has_letter letters d) true h refl
+prefix_len-one letters (d ∷ []) rest short h missing = rw (left_of (has_letter letters d) true h) refl
 prefix_len-one letters (d ∷ e ∷ run) rest short h missing = absurd (omega arith)
 
 pub longest_run-run : (step : Step) (run rest : List Child) → IsRun step run → begins_with step.letters rest ≡ false

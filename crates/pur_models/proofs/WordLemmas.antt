@@ -1,5 +1,5 @@
 -- Words of the content kinds.
-use Rattle.std.proofs.Common.{◌≡◌, ◌≤◌, ◌<◌, ◌×◌, ◌⊎◌, inl, inr, ℕ, List, [], ◌∷◌, ◌++◌, append-nil, refl, ap, sym, ◌∙◌, subst, Bool, true, false, ◌&&◌, ◌||◌, not, length, nat_eq, nat_le, arith}
+use Rattle.std.proofs.Common.{◌≡◌, ◌≤◌, ◌<◌, ◌⊎◌, inl, inr, ℕ, List, [], ◌∷◌, ◌++◌, append-nil, refl, ap, sym, ◌∙◌, subst, Bool, true, false, ◌&&◌, ◌||◌, not, length, nat_eq, nat_le, arith}
 use Rattle.std.specs.List.{flat_map, list_all, list_any}
 use Rattle.pur_names.specs.declared.elements.Element.{Element}
 use Rattle.pur_names.specs.declared.elements.Element.TheVariants.{Caption, Col, Colgroup, Dd, Del, Dt, Ins, Li, P, Tbody, Td, Tfoot, Th, Thead, Tr}
@@ -114,12 +114,12 @@ pub if_empty : (doctype : Doctype) (content : Content) → may_be_empty content 
 if_empty doctype content h = IsInLanguage-cut (expression_of doctype content) [] (empty_cut doctype content ∙ h)
 
 -- a word of a way of a table is its parts
-parts_of_way : (column body : Element) (word : List Child) → (column ≡ Col) ⊎ (column ≡ Colgroup) → (body ≡ Tbody) ⊎ (body ≡ Tr)
-    → IsInWay (table_way column body) word → IsTableWord word
-parts_of_way column body word ck bk (step_first {run = captions} a (step_first {run = columns} b (step_first {run = heads} c (step_first {run = feet} d (step_first {run = bodies} e no_step))))) =
+parts_of_way : (column group : Element) (word : List Child) → (column ≡ Col) ⊎ (column ≡ Colgroup) → (group ≡ Tbody) ⊎ (group ≡ Tr)
+    → IsInWay (table_way column group) word → IsTableWord word
+parts_of_way column group word ck gk (step_first {run = captions} a (step_first {run = columns} b (step_first {run = heads} c (step_first {run = feet} d (step_first {run = bodies} e no_step))))) =
     record {
-      column = column; body = body; captions = captions; columns = columns; heads = heads; feet = feet; bodies = bodies;
-      column_kind = ck; body_kind = bk; caption_run = a; column_run = b; head_run = c; foot_run = d; body_run = e;
+      column = column; body = group; captions = captions; columns = columns; heads = heads; feet = feet; bodies = bodies;
+      column_kind = ck; body_kind = gk; caption_run = a; column_run = b; head_run = c; foot_run = d; body_run = e;
       joined = ap (λ w. captions ++ (columns ++ (heads ++ (feet ++ w)))) (append-nil bodies);
     }
 
@@ -128,15 +128,28 @@ parts_of_table doctype word (first_way w) = parts_of_way Col Tbody word (inl ref
 parts_of_table doctype word (later_way (first_way w)) = parts_of_way Col Tr word (inl refl) (inr refl) w
 parts_of_table doctype word (later_way (later_way (first_way w))) = parts_of_way Colgroup Tbody word (inr refl) (inl refl) w
 parts_of_table doctype word (later_way (later_way (later_way (first_way w)))) = parts_of_way Colgroup Tr word (inr refl) (inr refl) w
+parts_of_table doctype word (later_way (later_way (later_way (later_way w)))) = elim w [ ]
 
-in_table : (doctype : Doctype) (column body : Element) (word : List Child)
-    → (column ≡ Col) ⊎ (column ≡ Colgroup) → (body ≡ Tbody) ⊎ (body ≡ Tr)
-    → IsInWay (table_way column body) word → Language doctype TableParts word
-in_table doctype column body word (inl e) (inl f) w = first_way (moved e f w)
-  where
-    moved : {c d b a : Element} → c ≡ d → b ≡ a → IsInWay (table_way c b) word → IsInWay (table_way d a) word
-    moved e f w = ?
-in_table doctype column body word ck bk w = ?
+-- a way of a table with the kinds that it has
+kinds_moved : {c d b a : Element} {word : List Child} → c ≡ d → b ≡ a → IsInWay (table_way c b) word → IsInWay (table_way d a) word
+kinds_moved {c} {d} {b} {a} {word} e f w =
+    let F : Element → Type 0 = λ x. IsInWay (table_way x b) word in
+    let G : Element → Type 0 = λ y. IsInWay (table_way d y) word in
+    subst G f (subst F e w)
+
+in_table : (doctype : Doctype) (column group : Element) (word : List Child)
+    → (column ≡ Col) ⊎ (column ≡ Colgroup) → (group ≡ Tbody) ⊎ (group ≡ Tr)
+    → IsInWay (table_way column group) word → Language doctype TableParts word
+in_table doctype column group word (inl e) (inl f) w = first_way (kinds_moved e f w)
+in_table doctype column group word (inl e) (inr f) w = later_way (first_way (kinds_moved e f w))
+in_table doctype column group word (inr e) (inl f) w = later_way (later_way (first_way (kinds_moved e f w)))
+in_table doctype column group word (inr e) (inr f) w = later_way (later_way (later_way (first_way (kinds_moved e f w))))
 
 pub table_of_parts : (doctype : Doctype) (word : List Child) → IsTableWord word → Language doctype TableParts word
-table_of_parts doctype word t = ?
+table_of_parts doctype word t =
+    let W : List Child → Type 0 = λ w. IsInWay (table_way t.column t.body) w in
+    let w : IsInWay (table_way t.column t.body) (t.captions ++ (t.columns ++ (t.heads ++ (t.feet ++ (t.bodies ++ []))))) =
+        step_first t.caption_run (step_first t.column_run (step_first t.head_run (step_first t.foot_run (step_first t.body_run no_step)))) in
+    let same : t.captions ++ (t.columns ++ (t.heads ++ (t.feet ++ (t.bodies ++ [])))) ≡ word =
+        ap (λ b. t.captions ++ (t.columns ++ (t.heads ++ (t.feet ++ b)))) (append-nil t.bodies) ∙ sym t.joined in
+    in_table doctype t.column t.body word t.column_kind t.body_kind (subst W same w)
