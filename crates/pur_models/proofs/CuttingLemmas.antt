@@ -31,7 +31,7 @@ IsInWay-cut (step ∷ steps) word h =
     let n : ℕ = longest_run step word in
     let enough : step.least ≤ n = from_at_most step.least n (left_of (nat_le step.least n) (is_cut steps (drop n word)) h) in
     let more : IsInWay steps (drop n word) =
-        IsInWay-cut steps (drop n word) (right_of (nat_le step.least n) (is_cut steps (drop n word)) h) in
+    IsInWay-cut steps (drop n word) (right_of (nat_le step.least n) (is_cut steps (drop n word)) h) in
     let P : List Child → Type 0 = λ w. IsInWay (step ∷ steps) w in
     subst P (take-append-drop n word) (step_first (IsRun-longest step word enough) more)
 
@@ -41,9 +41,9 @@ pub cut-IsInWay : {steps : List Step} {word : List Child} → IsInWay steps word
 cut-IsInWay no_step h = refl
 cut-IsInWay (step_first {step} {steps} {run} {rest} r more) h =
     let none : list_any (has_letter (letters_in steps)) step.letters ≡ false =
-        false_of _ (left_of _ (has_disjoint_steps steps) h) in
+    false_of _ (left_of _ (has_disjoint_steps steps) h) in
     let size : longest_run step (run ++ rest) ≡ length run =
-        longest_run-run step run rest r (begins_elsewhere step.letters (letters_in steps) rest none (letters_of_way more)) in
+    longest_run-run step run rest r (begins_elsewhere step.letters (letters_in steps) rest none (letters_of_way more)) in
     let behind : is_cut steps rest ≡ true = cut-IsInWay more (right_of _ (has_disjoint_steps steps) h) in
     rw size (both (at_most step.least (length run) r.least) (rw drop-append_seam behind))
 

@@ -116,7 +116,7 @@ pub IsRun-longest : (step : Step) (word : List Child) → step.least ≤ longest
     → IsRun step (take (longest_run step word) word)
 IsRun-longest step word enough =
     let size : length (take (longest_run step word) word) ≡ longest_run step word =
-        length-take-le (longest_run step word) word (longest_run-within step word) in
+    length-take-le (longest_run step word) word (longest_run-within step word) in
     record {
       letters = longest_run-passes step word;
       least = rw size enough;

@@ -44,8 +44,9 @@ some_run step h = go (nat_le step.least 0) refl
     pick [] is some = absurd (cc)
     pick (c ∷ letters) is some =
         let own : has_letter step.letters c ≡ true =
-            ap (λ ls. has_letter ls c) is ∙ or_left (same_child c c) (has_letter letters c) (same_child-refl c) in
+        ap (λ ls. has_letter ls c) is ∙ or_left (same_child c c) (has_letter letters c) (same_child-refl c) in
         record { run = c ∷ []; is_run = one_letter step c own (fillable_by_one step h) }
+
     go : (b : Bool) → nat_le step.least 0 ≡ b → SomeRun step
     go true none =
         let few : step.least ≤ 0 = from_at_most step.least 0 none in
@@ -88,7 +89,7 @@ word_with (step ∷ steps) c h here =
     go false other more =
         let r = some_run step (left_of (is_fillable step) (list_all is_fillable steps) h) in
         let either : (has_letter step.letters c || has_letter (letters_in steps) c) ≡ true =
-            sym (list_any-append (same_child c) step.letters (letters_in steps)) ∙ here in
+        sym (list_any-append (same_child c) step.letters (letters_in steps)) ∙ here in
         let behind : (false || has_letter (letters_in steps) c) ≡ true = rw other at either in
         let rest = more behind in
         record {
@@ -116,7 +117,7 @@ word_of_with (way ∷ ways) c h here =
         record { word = w.word; in_language = first_way w.in_way; has = w.has }
     go false other more =
         let either : (has_letter (letters_in way) c || has_letter (letters_of ways) c) ≡ true =
-            sym (list_any-append (same_child c) (letters_in way) (letters_of ways)) ∙ here in
+        sym (list_any-append (same_child c) (letters_in way) (letters_of ways)) ∙ here in
         let behind : (false || has_letter (letters_of ways) c) ≡ true = rw other at either in
         let w = more behind in
         record { word = w.word; in_language = later_way w.in_language; has = w.has }
@@ -139,6 +140,6 @@ pub allowed_letters_stand : (doctype : Doctype) (content : Content) (letter : Ch
     → StandsInAWord doctype content letter
 allowed_letters_stand doctype content letter h =
     let here : has_letter (letters_of (expression_of doctype content)) letter ≡ true =
-        sym (is_letter-has_letter doctype content letter) ∙ h in
+    sym (is_letter-has_letter doctype content letter) ∙ h in
     let w = word_of_with (expression_of doctype content) letter (expression_is_fillable doctype content) here in
     record { word = w.word; in_language = w.in_language; has = w.has }

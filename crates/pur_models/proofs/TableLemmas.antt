@@ -34,6 +34,7 @@ among-without_repeats seen (x ∷ elements) e unseen =
         → is_among (before_unless b x (without_repeats (x ∷ seen) elements)) e ≡ is_among (without_repeats (x ∷ seen) elements) e
     skip true other = refl
     skip false other = rw other refl
+
     go : (b : Bool) → same_element e x ≡ b
         → (is_among (x ∷ seen) e ≡ false → is_among (without_repeats (x ∷ seen) elements) e ≡ is_among elements e)
         → is_among (before_unless (is_among seen x) x (without_repeats (x ∷ seen) elements)) e ≡ is_among (x ∷ elements) e

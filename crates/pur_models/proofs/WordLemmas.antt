@@ -118,8 +118,20 @@ parts_of_way : (column group : Element) (word : List Child) → (column ≡ Col)
     → IsInWay (table_way column group) word → IsTableWord word
 parts_of_way column group word ck gk (step_first {run = captions} a (step_first {run = columns} b (step_first {run = heads} c (step_first {run = feet} d (step_first {run = bodies} e no_step))))) =
     record {
-      column = column; body = group; captions = captions; columns = columns; heads = heads; feet = feet; bodies = bodies;
-      column_kind = ck; body_kind = gk; caption_run = a; column_run = b; head_run = c; foot_run = d; body_run = e;
+      column = column;
+      body = group;
+      captions = captions;
+      columns = columns;
+      heads = heads;
+      feet = feet;
+      bodies = bodies;
+      column_kind = ck;
+      body_kind = gk;
+      caption_run = a;
+      column_run = b;
+      head_run = c;
+      foot_run = d;
+      body_run = e;
       joined = ap (λ w. captions ++ (columns ++ (heads ++ (feet ++ w)))) (append-nil bodies);
     }
 
@@ -149,7 +161,7 @@ pub table_of_parts : (doctype : Doctype) (word : List Child) → IsTableWord wor
 table_of_parts doctype word t =
     let W : List Child → Type 0 = λ w. IsInWay (table_way t.column t.body) w in
     let w : IsInWay (table_way t.column t.body) (t.captions ++ (t.columns ++ (t.heads ++ (t.feet ++ (t.bodies ++ []))))) =
-        step_first t.caption_run (step_first t.column_run (step_first t.head_run (step_first t.foot_run (step_first t.body_run no_step)))) in
+    step_first t.caption_run (step_first t.column_run (step_first t.head_run (step_first t.foot_run (step_first t.body_run no_step)))) in
     let same : t.captions ++ (t.columns ++ (t.heads ++ (t.feet ++ (t.bodies ++ [])))) ≡ word =
-        ap (λ b. t.captions ++ (t.columns ++ (t.heads ++ (t.feet ++ b)))) (append-nil t.bodies) ∙ sym t.joined in
+    ap (λ b. t.captions ++ (t.columns ++ (t.heads ++ (t.feet ++ b)))) (append-nil t.bodies) ∙ sym t.joined in
     in_table doctype t.column t.body word t.column_kind t.body_kind (subst W same w)

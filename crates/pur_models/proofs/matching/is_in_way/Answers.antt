@@ -13,12 +13,12 @@ returns-then-run-from c =
     let left = drop c.loop-step.at c.args.word.now in
     let short : longest_run (step_of step) left < step.least = grind (arith, common_steps) in
     let stops : is_cut (map step_of c.args.way.now) c.args.word.now ≡ false =
-        c.loop-step.invariant.rest ∙ cut_stops c.args.way.now c.loop-step.step-index step left (omega arith) c.step-item.is short in
+    c.loop-step.invariant.rest ∙ cut_stops c.args.way.now c.loop-step.step-index step left (omega arith) c.step-item.is short in
     (λ never. absurd (cc), λ w. sym stops ∙ cut-IsInWay w c.requires)
 
 pub returns : goal.returns
 returns c =
     let ends : is_cut (map step_of c.args.way.now) c.args.word.now ≡ nat_eq c.loop-step.at (length c.args.word.now) =
-        c.loop-step.invariant.rest
-        ∙ cut_ends c.args.way.now c.loop-step.step-index c.loop-step.at c.args.word.now (omega arith) c.loop-step.invariant.within in
+    c.loop-step.invariant.rest
+    ∙ cut_ends c.args.way.now c.loop-step.step-index c.loop-step.at c.args.word.now (omega arith) c.loop-step.invariant.within in
     (λ yes. IsInWay-cut _ _ (ends ∙ yes), λ w. sym ends ∙ cut-IsInWay w c.requires)
