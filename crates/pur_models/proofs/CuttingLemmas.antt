@@ -1,12 +1,12 @@
 -- Whether a word is one of a way, found by taking the longest run for each step.
-use Rattle.std.proofs.Common.{◌≡◌, ◌≤◌, ℕ, List, [], ◌∷◌, ◌++◌, refl, ap, sym, ◌∙◌, subst, Bool, true, false, ◌&&◌, ◌||◌, length, take, drop, arith, nat_le}
+use Rattle.std.proofs.Common.{◌≡◌, ◌≤◌, ℕ, List, [], ◌∷◌, ◌++◌, refl, subst, Bool, true, false, ◌&&◌, ◌||◌, length, drop, arith, nat_le}
 use Rattle.std.specs.List.{list_all, list_any}
 use Rattle.std.proofs.lemmas.Bool.Decides.{nat_tests}
 use Rattle.std.proofs.lemmas.List.{take-append-drop}
 use Rattle.std.proofs.Math.Seq.{drop-append_seam}
 use Rattle.pur_modules.specs.declared.kinds.Child.{Child}
 use Rattle.pur_modules.specs.Expressions.{Step}
-use Rattle.pur_models.specs.Languages.{IsInLanguage, IsInWay, IsRun, first_way, has_disjoint_steps, has_letter, later_way, letters_in, no_step, step_first}
+use Rattle.pur_models.specs.Languages.{IsInLanguage, IsInWay, first_way, has_disjoint_steps, has_letter, later_way, letters_in, no_step, step_first}
 use Rattle.pur_models.specs.Runs.{longest_run}
 use Rattle.pur_models.proofs.LetterLemmas.{both, false_of, left_of, or_left, or_right, right_of}
 use Rattle.pur_models.proofs.RunLemmas.{IsRun-longest, begins_elsewhere, letters_of_way, longest_run-run}

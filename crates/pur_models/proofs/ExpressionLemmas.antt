@@ -1,5 +1,5 @@
 -- The expressions of the content kinds: their ways have disjoint steps.
-use Rattle.std.proofs.Common.{◌≡◌, refl}
+use Rattle.std.proofs.Common.{refl}
 use Rattle.pur_modules.specs.declared.kinds.Content.{Content}
 use Rattle.pur_modules.specs.declared.kinds.Content.TheVariants.{Inline, Flow, Block, AddressMix, Items, Pairs, TableParts, Rows, Cells, Cols, Nothing}
 use Rattle.pur_modules.specs.declared.kinds.Doctype.{Doctype}

@@ -1,5 +1,5 @@
 -- Comparing two children is the test for the same letter.
-use Rattle.std.proofs.Common.{◌≡◌, List, [], ◌∷◌, refl, ap, sym, ◌∙◌, Bool, true, false, ◌||◌, rules}
+use Rattle.std.proofs.Common.{◌≡◌, List, [], ◌∷◌, refl, ap, sym, Bool, ◌||◌, rules}
 use Rattle.std.specs.List.{list_any}
 use Rattle.std.proofs.lemmas.Bool.Decides.{same_from_decides}
 use denote.Enum.Bare.{same_true, sameb, true_same}

@@ -1,5 +1,5 @@
 -- The tables of children are the letters of the expressions.
-use Rattle.std.proofs.Common.{◌≡◌, List, [], ◌∷◌, ◌++◌, refl, ap, sym, ◌∙◌, Bool, true, false, ◌&&◌, ◌||◌}
+use Rattle.std.proofs.Common.{◌≡◌, List, [], ◌∷◌, refl, ap, sym, ◌∙◌, Bool, true, false, ◌&&◌, ◌||◌}
 use Rattle.std.specs.List.{list_all, list_any}
 use Rattle.pur_names.specs.Elements.{same_element}
 use Rattle.pur_names.proofs.ElementLaws.{same_element-Decides}
@@ -10,8 +10,7 @@ use Rattle.pur_modules.specs.declared.kinds.Content.{Content}
 use Rattle.pur_modules.specs.declared.kinds.Doctype.{Doctype}
 use Rattle.pur_modules.specs.Expressions.{before_unless, child_letters, elements_among, expression_of, has_text_letter, is_letter, is_text, letters_of, without_repeats}
 use Rattle.pur_modules.specs.Groups.{is_among}
-use Rattle.pur_models.specs.Languages.{all_among, has_letter, same_child}
-use Rattle.pur_models.proofs.LetterLemmas.{both, left_of, right_of, neither_left, neither_right}
+use Rattle.pur_models.specs.Languages.{all_among, has_letter}
 
 has_letter-Text : (letters : List Child) → list_any is_text letters ≡ has_letter letters Text
 has_letter-Text [] = refl

@@ -1,21 +1,21 @@
 -- Words of the content kinds.
-use Rattle.std.proofs.Common.{◌≡◌, ◌≤◌, ◌<◌, ◌⊎◌, inl, inr, ℕ, List, [], ◌∷◌, ◌++◌, append-nil, refl, ap, sym, ◌∙◌, subst, Bool, true, false, ◌&&◌, ◌||◌, not, length, nat_eq, nat_le, arith}
-use Rattle.std.specs.List.{flat_map, list_all, list_any}
+use Rattle.std.proofs.Common.{◌≡◌, ◌<◌, ◌⊎◌, inl, inr, List, [], ◌∷◌, ◌++◌, append-nil, refl, ap, sym, ◌∙◌, subst, true, length, arith}
+use Rattle.std.specs.List.{list_all, list_any}
 use Rattle.pur_names.specs.declared.elements.Element.{Element}
-use Rattle.pur_names.specs.declared.elements.Element.TheVariants.{Caption, Col, Colgroup, Dd, Del, Dt, Ins, Li, P, Tbody, Td, Tfoot, Th, Thead, Tr}
+use Rattle.pur_names.specs.declared.elements.Element.TheVariants.{Col, Colgroup, Dd, Del, Dt, Ins, Li, P, Tbody, Td, Th, Tr}
 use Rattle.pur_modules.specs.declared.kinds.Child.{Child}
 use Rattle.pur_modules.specs.declared.kinds.Content.{Content}
 use Rattle.pur_modules.specs.declared.kinds.Content.TheVariants.{Inline, Flow, Block, AddressMix, Items, Pairs, TableParts, Rows, Cells, Cols, Nothing}
 use Rattle.pur_modules.specs.declared.kinds.Doctype.{Doctype}
-use Rattle.pur_modules.specs.Expressions.{Step, any_of, elems, expression_of, is_letter, letters_of, one_step, optional, some_of, table_way, text_or}
+use Rattle.pur_modules.specs.Expressions.{Step, any_of, elems, expression_of, is_letter, letters_of, one_step, some_of, table_way, text_or}
 use Rattle.pur_modules.specs.Groups.{block, inline}
-use Rattle.pur_models.specs.Languages.{IsInLanguage, IsInWay, IsRun, Language, all_among, first_way, has_letter, later_way, letters_in, no_step, step_first}
-use Rattle.pur_models.specs.Laws.{IsTableWord, StandsInAWord, may_be_empty, takes_any_number, takes_one_or_more}
-use Rattle.pur_models.proofs.CuttingLemmas.{IsInLanguage-cut, at_most, cut-IsInLanguage, from_at_most, is_cut}
+use Rattle.pur_models.specs.Languages.{IsInLanguage, IsInWay, IsRun, Language, all_among, first_way, later_way, letters_in, no_step, step_first}
+use Rattle.pur_models.specs.Laws.{IsTableWord, may_be_empty, takes_any_number, takes_one_or_more}
+use Rattle.pur_models.proofs.CuttingLemmas.{IsInLanguage-cut, cut-IsInLanguage, is_cut}
 use Rattle.pur_models.proofs.ExpressionLemmas.{AreDisjoint-expression_of}
-use Rattle.pur_models.proofs.LetterLemmas.{all_among-left, all_among-right, both, has_letter-left, has_letter-right, left_of, or_left, or_right, right_of, same_child-refl}
+use Rattle.pur_models.proofs.LetterLemmas.{all_among-left, all_among-right}
 use Rattle.pur_models.proofs.RunLemmas.{letters_of_way}
-use Rattle.pur_models.proofs.TableLemmas.{all_allowed, is_letter-has_letter}
+use Rattle.pur_models.proofs.TableLemmas.{all_allowed}
 
 -- each letter of a word of an expression is one of its letters
 pub letters_of_word : {ways : List (List Step)} {word : List Child} → IsInLanguage ways word → all_among (letters_of ways) word ≡ true

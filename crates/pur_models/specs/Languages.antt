@@ -1,5 +1,5 @@
 -- The languages of the content expressions: sets of words over text and the elements (XML 1.0, section 3.2.1).
-use Rattle.std.specs.Prelude.{◌≡◌, ◌≤◌, ℕ, Bool, true, false, List, [], ◌∷◌, ◌++◌, length, not, ◌&&◌, IsTrue}
+use Rattle.std.specs.Prelude.{◌≡◌, ◌≤◌, Bool, true, false, List, [], ◌∷◌, ◌++◌, length, not, ◌&&◌, IsTrue}
 use Rattle.std.specs.List.{flat_map, list_all, list_any}
 use Rattle.pur_names.specs.Elements.{same_element}
 use Rattle.pur_modules.specs.declared.kinds.Child.{Child}

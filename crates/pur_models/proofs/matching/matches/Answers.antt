@@ -1,5 +1,5 @@
 -- Each way is tried in turn.
-use Rattle.std.proofs.Common.{◌≡◌, true, false, refl, sym, ◌∙◌, ap, subst, map, List, get_or, arith}
+use Rattle.std.proofs.Common.{◌≡◌, refl, sym, ◌∙◌, ap, subst, map, List, get_or, arith}
 use Rattle.pur_models.specs.declared.expressions.Step.{Step}
 use Rattle.pur_models.specs.Images.{step_of, way_of}
 use Rattle.pur_models.specs.Languages.{IsInWay, has_disjoint_steps}
