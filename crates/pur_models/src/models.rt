@@ -1,0 +1,134 @@
+//! The content models of the two document types.
+
+ghost use Rattle.std.specs.Prelude.{◌≡◌, ◌∷◌, [], IfOk};
+ghost use Rattle.pur_modules.specs.Expressions.{any_of, expression_of, one_step, optional, some_of, table_way};
+ghost use Rattle.pur_models.specs.Images.{step_of, way_of, ways_of};
+ghost use Rattle.pur_models.specs.Languages.{AreDisjoint};
+
+use crate::expressions::{Expr, Step};
+use crate::letters::{address_letters, block_letters, elements, flow_letters, inline_letters};
+use pur_modules::{Child, Content, Doctype};
+use pur_names::Element;
+use std::alloc::{AllocError, Global};
+
+/// The content model of a kind of content.
+///
+/// The commas within parentheses stand for a choice, and a mark behind them for repetition, as in the DTDs.
+///
+/// Errors: want of memory.
+///
+/// Source: XHTML 1.0, the element declarations of the two DTDs.
+pub fn model(alloc: Global, doctype: Doctype, content: Content) -> Result<Expr, AllocError>
+    ensures value { IfOk result (λ model. ways_of model ≡ expression_of doctype content) }
+    ensures disjoint { IfOk result (λ model. AreDisjoint (ways_of model)) }
+{
+    match content {
+        // (text, inline elements)*
+        Content::Inline => one_step(alloc, any_of(inline_letters(alloc, doctype)?)),
+        // (text, inline elements, blocks)*
+        Content::Flow => one_step(alloc, any_of(flow_letters(alloc, doctype)?)),
+        // (blocks, ins, del)*
+        Content::Block => one_step(alloc, any_of(block_letters(alloc, doctype)?)),
+        // (text, inline elements, p)*
+        Content::AddressMix => one_step(alloc, any_of(address_letters(alloc, doctype)?)),
+        // (li)+
+        Content::Items => one_step(alloc, some_of(elements(alloc, &[Element::Li])?)),
+        // (dt, dd)+
+        Content::Pairs => one_step(
+            alloc,
+            some_of(elements(alloc, &[Element::Dt, Element::Dd])?),
+        ),
+        // caption?, (col* or colgroup*), thead?, tfoot?, (tbody+ or tr+)
+        Content::TableParts => table(alloc),
+        // (tr)+
+        Content::Rows => one_step(alloc, some_of(elements(alloc, &[Element::Tr])?)),
+        // (th, td)+
+        Content::Cells => one_step(
+            alloc,
+            some_of(elements(alloc, &[Element::Th, Element::Td])?),
+        ),
+        // (col)*
+        Content::Cols => one_step(alloc, any_of(elements(alloc, &[Element::Col])?)),
+        // EMPTY
+        Content::Nothing => no_step(alloc),
+    }
+}
+
+// The expression of one way without a step: the empty word alone.
+fn no_step(alloc: Global) -> Result<Expr, AllocError>
+    ensures { IfOk result (λ model. ways_of model ≡ [] ∷ []) }
+{
+    let mut ways = Vec::new(alloc);
+    ways.push(Vec::new(alloc))?;
+    Ok(Expr { ways })
+}
+
+// The expression of one way with one step.
+fn one_step(alloc: Global, step: Step) -> Result<Expr, AllocError>
+    ensures { IfOk result (λ model. ways_of model ≡ one_step (step_of step)) }
+{
+    let mut steps = Vec::new(alloc);
+    steps.push(step)?;
+    let mut ways = Vec::new(alloc);
+    ways.push(steps)?;
+    Ok(Expr { ways })
+}
+
+// (x)*: any number of the letters.
+fn any_of(letters: Vec<Child>) -> Step
+    ensures { step_of result ≡ any_of letters.items }
+{
+    Step {
+        letters,
+        least: 0,
+        many: true,
+    }
+}
+
+// (x)+: one or more of the letters.
+fn some_of(letters: Vec<Child>) -> Step
+    ensures { step_of result ≡ some_of letters.items }
+{
+    Step {
+        letters,
+        least: 1,
+        many: true,
+    }
+}
+
+// x?: one of the element or none.
+fn optional(alloc: Global, element: Element) -> Result<Step, AllocError>
+    ensures { IfOk result (λ step. step_of step ≡ optional element) }
+{
+    let letters = elements(alloc, &[element])?;
+    Ok(Step {
+        letters,
+        least: 0,
+        many: false,
+    })
+}
+
+// A table, the same in both doctypes: a way for each kind of columns with each kind of bodies.
+fn table(alloc: Global) -> Result<Expr, AllocError>
+    ensures { IfOk result (λ model. ways_of model ≡ expression_of Doctype.Strict Content.TableParts) }
+{
+    let mut ways = Vec::new(alloc);
+    ways.push(table_way(alloc, Element::Col, Element::Tbody)?)?;
+    ways.push(table_way(alloc, Element::Col, Element::Tr)?)?;
+    ways.push(table_way(alloc, Element::Colgroup, Element::Tbody)?)?;
+    ways.push(table_way(alloc, Element::Colgroup, Element::Tr)?)?;
+    Ok(Expr { ways })
+}
+
+// A way of a table, with one kind of columns and one kind of bodies.
+fn table_way(alloc: Global, column: Element, body: Element) -> Result<Vec<Step>, AllocError>
+    ensures { IfOk result (λ way. way_of way ≡ table_way column body) }
+{
+    let mut steps = Vec::new(alloc);
+    steps.push(optional(alloc, Element::Caption)?)?;
+    steps.push(any_of(elements(alloc, &[column])?))?;
+    steps.push(optional(alloc, Element::Thead)?)?;
+    steps.push(optional(alloc, Element::Tfoot)?)?;
+    steps.push(some_of(elements(alloc, &[body])?))?;
+    Ok(steps)
+}
