@@ -1,0 +1,4 @@
+pub mod Texts
+pub mod Attributes
+pub mod Storage
+pub mod Tokens
