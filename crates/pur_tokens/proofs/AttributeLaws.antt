@@ -6,7 +6,7 @@ use Rattle.std.proofs.lemmas.List.Folds.{list_any-append}
 use Rattle.std.specs.Str.{chars, IsUtf8}
 use Rattle.pur_tokens.specs.Texts.{byte_count}
 use Rattle.pur_tokens.specs.Attributes.{Attribute, is_same_text, names_of, values_of, has_name, is_distinct, value_of, with_value, with_new, without, weight_of}
-use Rattle.pur_tokens.specs.Storage.{with_value_at}
+use Rattle.pur_tokens.specs.Places.{with_value_at}
 use Rattle.pur_tokens.proofs.TextLaws.{same_text, is_same_text-refl, is_same_text-sym, byte_count-chars}
 
 pub both_false : (a b : Bool) → (a || b) ≡ false → (a ≡ false) × (b ≡ false)
@@ -102,6 +102,18 @@ remove-at (pair ∷ pairs) name (suc place) distinct e =
     let other = another_name pair pairs distinct name (has_name-at pairs name place e) in
     rw other (ap (λ (l : List Attribute). pair ∷ l) (remove-at pairs name place (rest_is_distinct pair pairs distinct) e))
 
+pub has_name-without_same : (pairs : List Attribute) (name : List ℕ) → has_name (without pairs name) name ≡ false
+has_name-without_same [] name = refl
+has_name-without_same (pair ∷ pairs) name = by (is_same_text name pair.0) refl (has_name-without_same pairs name)
+  where
+    by : (b : Bool) → is_same_text name pair.0 ≡ b → has_name (without pairs name) name ≡ false → has_name (cond (not b) (pair ∷ without pairs name) (without pairs name)) name ≡ false
+    by true e rest = rest
+    by false e rest = rw e rest
+
+-- a name that is taken out is gone
+pub has_name-removed : (pairs : List Attribute) (name : List ℕ) (place : ℕ) → is_distinct pairs ≡ true → slice_get (names_of pairs) place ≡ Some name → has_name (remove pairs place) name ≡ false
+has_name-removed pairs name place distinct e = rw (remove-at pairs name place distinct e) (has_name-without_same pairs name)
+
 -- what keeps names distinct
 
 pub has_name-append : (pairs more : List Attribute) (name : List ℕ) → has_name (pairs ++ more) name ≡ (has_name pairs name || has_name more name)
@@ -117,7 +129,7 @@ is_distinct-push [] name value distinct absent = refl
 is_distinct-push (pair ∷ pairs) name value distinct absent =
     let none = both_false (is_same_text name pair.0) (has_name pairs name) absent in
     let new : has_name (pairs ++ (name, value) ∷ []) pair.0 ≡ false =
-        has_name-append pairs ((name, value) ∷ []) pair.0 ∙ rw (first_is_new pair pairs distinct, is_same_text-sym pair.0 name, none.0) refl in
+    has_name-append pairs ((name, value) ∷ []) pair.0 ∙ rw (first_is_new pair pairs distinct, is_same_text-sym pair.0 name, none.0) refl in
     rw new (is_distinct-push pairs name value (rest_is_distinct pair pairs distinct) none.1)
 
 pub names_of-with_value_at : (pairs : List Attribute) (place : ℕ) (value : List ℕ) → names_of (with_value_at pairs place value) ≡ names_of pairs
@@ -153,8 +165,8 @@ pub is_distinct-without : (pairs : List Attribute) (name : List ℕ) → is_dist
 is_distinct-without [] name distinct = refl
 is_distinct-without (pair ∷ pairs) name distinct =
     by (is_same_text name pair.0)
-        (has_name-without pairs name pair.0 (first_is_new pair pairs distinct))
-        (is_distinct-without pairs name (rest_is_distinct pair pairs distinct))
+    (has_name-without pairs name pair.0 (first_is_new pair pairs distinct))
+    (is_distinct-without pairs name (rest_is_distinct pair pairs distinct))
   where
     by : (b : Bool) → has_name (without pairs name) pair.0 ≡ false → is_distinct (without pairs name) ≡ true → is_distinct (cond (not b) (pair ∷ without pairs name) (without pairs name)) ≡ true
     by true first rest = rest
@@ -176,7 +188,7 @@ has_name-take [] place name distinct e = cc
 has_name-take (pair ∷ pairs) zero name distinct e = refl
 has_name-take (pair ∷ pairs) (suc place) name distinct e =
     rw (another_name pair pairs distinct name (has_name-at pairs name place e))
-        (has_name-take pairs place name (rest_is_distinct pair pairs distinct) e)
+    (has_name-take pairs place name (rest_is_distinct pair pairs distinct) e)
 
 pub weight_of-drop : (pairs : List Attribute) (place : ℕ) (name value : List ℕ) → slice_get (names_of pairs) place ≡ Some name → slice_get (values_of pairs) place ≡ Some value → weight_of (drop place pairs) ≡ byte_count name + byte_count value + weight_of (drop (suc place) pairs)
 weight_of-drop [] place name value n v = cc
@@ -196,8 +208,8 @@ pub weight-next : (pairs : List Attribute) (place : ℕ) (name value : List ℕ)
     → min (w + weight_of (drop place pairs)) (2 ^ 64 - 1) ≡ total → min (with_both + weight_of (drop (place + 1) pairs)) (2 ^ 64 - 1) ≡ total
 weight-next pairs place name value w with_name with_both total name_valid value_valid named valued e f sum =
     let step : weight_of (drop place pairs) ≡ length name + length value + weight_of (drop (suc place) pairs) =
-        weight_of-drop pairs place (chars name) (chars value) named valued
-            ∙ rw (byte_count-chars name name_valid, byte_count-chars value value_valid) refl in
+    weight_of-drop pairs place (chars name) (chars value) named valued
+    ∙ rw (byte_count-chars name name_valid, byte_count-chars value value_valid) refl in
     rw (f, e, add-one) (saturated w (length name) (length value) (weight_of (drop (suc place) pairs)) (2 ^ 64 - 1) ∙ rw (← step) sum)
 
 -- nothing is left past the end

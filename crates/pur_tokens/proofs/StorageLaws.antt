@@ -1,121 +1,116 @@
--- What the two forms of storage hold, as lists of attributes.
-use Rattle.std.proofs.Common.{◌≡◌, ℕ, zero, suc, ◌+◌, ◌<◌, ◌≤◌, Bool, true, false, not, ◌||◌, cond, List, [], ◌∷◌, ◌++◌, length, get_or, take, drop, set, remove, slice_get, slice_index_or, map, position, Option, Some, None, IfSome, IfNone, String, string_bytes, refl, sym, ap, subst, ◌∙◌, arith}
-use Rattle.std.specs.List.{position_or_len, refill, list_any}
+-- What stored pairs hold, as lists of attributes.
+use Rattle.std.proofs.Common.{◌≡◌, ℕ, zero, suc, ◌+◌, ◌<◌, nat_lt, Bool, true, false, not, ◌||◌, cond, if◌then◌else◌, List, [], ◌∷◌, ◌++◌, length, get_or, set, remove, slice_get, slice_index_or, map, position, Option, Some, None, IfSome, IfNone, String, string_bytes, refl, sym, ap, ◌∙◌, arith}
+use Rattle.std.specs.List.{position_or_len, refill}
 use Rattle.std.specs.Str.{chars, bytes_eq, IsUtf8}
 use Rattle.std.specs.Option.{option_map}
-use Rattle.std.specs.String.{string_eq}
-use Rattle.std.specs.Map.{keys_of}
 use Rattle.std.specs.declared.alloc.Global.{Global}
 use Rattle.std.proofs.lemmas.Grind.{common_steps}
-use Rattle.std.proofs.lemmas.List.{length-map, map-append}
-use Rattle.std.proofs.lemmas.List.Sums.{fails_before_first}
-use Rattle.std.proofs.lemmas.List.Quantifiers.{position-Some}
-use Rattle.std.proofs.lemmas.Option.{slice_get-map, slice_get-get_or}
-use Rattle.std.proofs.lemmas.Simd.{map-map}
+use Rattle.std.proofs.lemmas.List.{length-map}
 use Rattle.std.proofs.lemmas.Str.{IsUtf8-string_bytes}
-use Rattle.indexmap.specs.IndexMap.{insert_entry}
-use Rattle.indexmap.specs.Layout.{set_value_at}
 use Rattle.pur_tokens.specs.Texts.{text_of}
 use Rattle.pur_tokens.specs.Attributes.{Attribute, is_same_text, names_of, values_of, has_name}
-use Rattle.pur_tokens.specs.Storage.{attribute_of, attribute_at, with_value_at, IsPlaceOf}
-use Rattle.pur_tokens.specs.declared.pairs_in_order.Pair.{Pair}
-use Rattle.pur_tokens.proofs.TextLaws.{same_text, bytes_eq-chars, bytes_eq-stored}
+use Rattle.pur_tokens.specs.Places.{with_value_at, IsPlaceOf, place_of}
+use Rattle.pur_tokens.specs.Pairs.{attribute_of, stored_names}
+use Rattle.pur_tokens.specs.declared.stored_pair.Pair.{Pair}
+use Rattle.pur_tokens.proofs.TextLaws.{same_text, bytes_eq-stored}
 use Rattle.pur_tokens.proofs.AttributeLaws.{both_false}
 
--- a search by a test of what has a name
-module _ {X : Type 0} (named : X → List ℕ) (name : List ℕ) (test : X → Bool) (agrees : (x : X) → test x ≡ is_same_text name (named x)) where
-  position_or_len-failed : (x : X) (xs : List X) → test x ≡ false → position_or_len test (x ∷ xs) ≡ 1 + position_or_len test xs
-  position_or_len-failed x xs e = rw e refl
-
-  none_found : (xs : List X) → length xs ≤ position_or_len test xs → list_any (is_same_text name) (map named xs) ≡ false
-  none_found [] h = refl
-  none_found (x ∷ xs) h =
-      let fails : test x ≡ false = fails_before_first test (x ∷ xs) 0 x (omega arith) in
-      let rest : length xs ≤ position_or_len test xs = omega (arith, position_or_len-failed x xs fails) in
-      let other : is_same_text name (named x) ≡ false = sym (agrees x) ∙ fails in
-      rw other (none_found xs rest)
-
-  pub absent : (xs : List X) → position test xs ≡ None → list_any (is_same_text name) (map named xs) ≡ false
-  absent xs e = none_found xs (grind (arith, common_steps))
-
-  pub found : (xs : List X) (place : ℕ) → position test xs ≡ Some place → (place < length xs) × (slice_get (map named xs) place ≡ Some name)
-  found [] place e = cc
-  found (x ∷ xs) place e =
-      let p = position-Some test (x ∷ xs) place x e in
-      let here = get_or (x ∷ xs) place x in
-      let same : name ≡ named (get_or (x ∷ xs) place x) = same_text name (named (get_or (x ∷ xs) place x)) (sym (agrees (get_or (x ∷ xs) place x)) ∙ p.1) in
-      (p.0, slice_get-map named (x ∷ xs) place ∙ ap (option_map named) (slice_get-get_or (x ∷ xs) place x p.0) ∙ ap (λ (n : List ℕ). Some n) (sym same))
-
--- the answer of a search is a place of the name, or there is none
-module _ {X : Type 0} (named : X → List ℕ) (name : List ℕ) (test : X → Bool) (agrees : (x : X) → test x ≡ is_same_text name (named x)) (xs : List X) (pairs : List Attribute) (names : names_of pairs ≡ map named xs) where
-  pub IsPlaceOf-position : (r : Option ℕ) → position test xs ≡ r → IfSome r (IsPlaceOf pairs name)
-  IsPlaceOf-position None e = tt
-  IsPlaceOf-position (Some place) e =
-      let p = found named name test agrees xs place e in
-      let l : length pairs ≡ length xs = sym (length-map pairs (λ pair. pair.0)) ∙ ap length names ∙ length-map xs named in
-      record { within = rw l p.0; named = ap (λ (l : List (List ℕ)). slice_get l place) names ∙ p.1 }
-
-  pub absent-position : (r : Option ℕ) → position test xs ≡ r → IfNone r (has_name pairs name ≡ false)
-  absent-position None e = ap (list_any (is_same_text name)) names ∙ absent named name test agrees xs e
-  absent-position (Some place) e = tt
-
--- the names that pairs and entries hold
-pub names_of-few : (few : List Pair) → names_of (map attribute_of few) ≡ map (λ pair. text_of pair.name) few
-names_of-few few = map-map (λ (pair : Attribute). pair.0) attribute_of few
-
-pub names_of-many : (many : List (String Global × String Global)) → names_of (map attribute_at many) ≡ map text_of (keys_of many)
-names_of-many [] = refl
-names_of-many (entry ∷ many) = ap (λ (l : List (List ℕ)). text_of entry.0 ∷ l) (names_of-many many)
-
 -- the names and the values at a place
-pub few-told : (few : List Pair) (place : ℕ) (pair : Pair) → place < length (map attribute_of few)
-    → (slice_get (names_of (map attribute_of few)) place ≡ Some (text_of (get_or few place pair).name)) × (slice_get (values_of (map attribute_of few)) place ≡ Some (text_of (get_or few place pair).value))
-few-told [] place pair within = absurd (omega arith)
-few-told (first ∷ few) zero pair within = (refl, refl)
-few-told (first ∷ few) (suc place) pair within = few-told few place pair (omega arith)
+pub pairs-told : (pairs : List Pair) (place : ℕ) (pair : Pair) → place < length (map attribute_of pairs)
+    → (slice_get (names_of (map attribute_of pairs)) place ≡ Some (text_of (get_or pairs place pair).name)) × (slice_get (values_of (map attribute_of pairs)) place ≡ Some (text_of (get_or pairs place pair).value))
+pairs-told [] place pair within = absurd (omega arith)
+pairs-told (first ∷ pairs) zero pair within = (refl, refl)
+pairs-told (first ∷ pairs) (suc place) pair within = pairs-told pairs place pair (omega arith)
 
-pub many-told : (many : List (String Global × String Global)) (place : ℕ) (entry : String Global × String Global) → slice_get many place ≡ Some entry
-    → (slice_get (names_of (map attribute_at many)) place ≡ Some (text_of entry.0)) × (slice_get (values_of (map attribute_at many)) place ≡ Some (text_of entry.1))
-many-told [] place entry e = cc
-many-told (first ∷ many) zero entry e =
-    let same : first ≡ entry = cc in
-    (ap (λ (x : String Global × String Global). Some (text_of x.0)) same, ap (λ (x : String Global × String Global). Some (text_of x.1)) same)
-many-told (first ∷ many) (suc place) entry e = many-told many place entry e
+pub stored_names-told : (pairs : List Pair) (place : ℕ) (pair : Pair) → place < length (map attribute_of pairs) → slice_get (stored_names pairs) place ≡ Some (string_bytes (get_or pairs place pair).name)
+stored_names-told [] place pair within = absurd (omega arith)
+stored_names-told (first ∷ pairs) zero pair within = refl
+stored_names-told (first ∷ pairs) (suc place) pair within = stored_names-told pairs place pair (omega arith)
 
--- a value written into a short list
-few-set : (few : List Pair) (place : ℕ) (pair : Pair) (value : String Global)
-    → map attribute_of (set few place (record { name = (get_or few place pair).name; value = value })) ≡ with_value_at (map attribute_of few) place (text_of value)
-few-set [] place pair value = refl
-few-set (first ∷ few) zero pair value = refl
-few-set (first ∷ few) (suc place) pair value = ap (λ (l : List Attribute). attribute_of first ∷ l) (few-set few place pair value)
+-- a value that is written
+pub pairs-set : (pairs : List Pair) (place : ℕ) (pair : Pair) (value : String Global)
+    → map attribute_of (set pairs place (record { name = (get_or pairs place pair).name; value = value })) ≡ with_value_at (map attribute_of pairs) place (text_of value)
+pairs-set [] place pair value = refl
+pairs-set (first ∷ pairs) zero pair value = refl
+pairs-set (first ∷ pairs) (suc place) pair value = ap (λ (l : List Attribute). attribute_of first ∷ l) (pairs-set pairs place pair value)
 
-refill-set : (few : List Pair) (place : ℕ) (pair : Pair) → refill (length few) few (set few place pair) ≡ set few place pair
-refill-set few place pair = grind (arith, common_steps)
+pub stored_names-set : (pairs : List Pair) (place : ℕ) (pair : Pair) (value : String Global)
+    → stored_names (set pairs place (record { name = (get_or pairs place pair).name; value = value })) ≡ stored_names pairs
+stored_names-set [] place pair value = refl
+stored_names-set (first ∷ pairs) zero pair value = refl
+stored_names-set (first ∷ pairs) (suc place) pair value = ap (λ (l : List (List ℕ)). string_bytes first.name ∷ l) (stored_names-set pairs place pair value)
 
-pub few-written : (few written : List Pair) (place : ℕ) (pair : Pair) (value : String Global) → written ≡ few
-    → map attribute_of (refill (length few) few (set written place (record { name = (slice_index_or written place pair).name; value = value }))) ≡ with_value_at (map attribute_of few) place (text_of value)
-few-written few written place pair value same =
-    rw (same, refill-set few place (record { name = (get_or few place pair).name; value = value })) (few-set few place pair value)
+refill-set : (pairs : List Pair) (place : ℕ) (pair : Pair) → refill (length pairs) pairs (set pairs place pair) ≡ set pairs place pair
+refill-set pairs place pair = grind (arith, common_steps)
 
--- a value written into a map
-pub many-written : (many : List (String Global × String Global)) (place : ℕ) (value : String Global) → map attribute_at (set_value_at many place value) ≡ with_value_at (map attribute_at many) place (text_of value)
-many-written [] place value = refl
-many-written (entry ∷ many) zero value = refl
-many-written (entry ∷ many) (suc place) value = ap (λ (l : List Attribute). attribute_at entry ∷ l) (many-written many place value)
+pub pairs-written : (pairs written : List Pair) (place : ℕ) (pair : Pair) (value : String Global) → written ≡ pairs
+    → map attribute_of (refill (length pairs) pairs (set written place (record { name = (slice_index_or written place pair).name; value = value }))) ≡ with_value_at (map attribute_of pairs) place (text_of value)
+pairs-written pairs written place pair value same =
+    rw (same, refill-set pairs place (record { name = (get_or pairs place pair).name; value = value })) (pairs-set pairs place pair value)
 
 -- a pair that is taken out
-pub map-remove : {X : Type 0} (f : X → Attribute) (xs : List X) (place : ℕ) → map f (remove xs place) ≡ remove (map f xs) place
+pub map-remove : {X Y : Type 0} (f : X → Y) (xs : List X) (place : ℕ) → map f (remove xs place) ≡ remove (map f xs) place
 map-remove f [] zero = refl
 map-remove f [] (suc place) = refl
 map-remove f (x ∷ xs) zero = refl
-map-remove f (x ∷ xs) (suc place) = ap (λ (l : List Attribute). f x ∷ l) (map-remove f xs place)
+map-remove {X} {Y} f (x ∷ xs) (suc place) = ap (λ (l : List Y). f x ∷ l) (map-remove f xs place)
 
--- a new entry goes last
-pub many-put : (many : List (String Global × String Global)) (name value : String Global) → has_name (map attribute_at many) (text_of name) ≡ false
-    → map attribute_at (insert_entry string_eq many name value) ≡ map attribute_at many ++ (text_of name, text_of value) ∷ []
-many-put [] name value absent = refl
-many-put (entry ∷ many) name value absent =
-    let none = both_false (is_same_text (text_of name) (text_of entry.0)) (has_name (map attribute_at many) (text_of name)) absent in
-    let other : string_eq name entry.0 ≡ false =
-        bytes_eq-chars (string_bytes name) (string_bytes entry.0) (IsUtf8-string_bytes name) (IsUtf8-string_bytes entry.0) ∙ none.0 in
-    rw other (ap (λ (l : List Attribute). attribute_at entry ∷ l) (many-put many name value none.1))
+-- a search among the names
+
+module _ (name : List ℕ) where
+  step : (b : Bool) (p n : ℕ)
+      → cond (nat_lt (cond (not b) (1 + p) 0) (suc n)) (Some (cond (not b) (1 + p) 0)) None ≡ (if b then Some 0 else option_map suc (cond (nat_lt p n) (Some p) None))
+  step true p n = grind (arith, common_steps)
+  step false p n = grind (arith, common_steps)
+
+  -- a search along the pairs
+  pub position-place_of : (pairs : List Pair) → position (λ (pair : Pair). bytes_eq name (string_bytes pair.name)) pairs ≡ place_of (stored_names pairs) name
+  position-place_of [] = refl
+  position-place_of (pair ∷ pairs) =
+      step (bytes_eq name (string_bytes pair.name)) (position_or_len (λ (pair : Pair). bytes_eq name (string_bytes pair.name)) pairs) (length pairs)
+      ∙ ap (λ (r : Option ℕ). if bytes_eq name (string_bytes pair.name) then Some 0 else option_map suc r) (position-place_of pairs)
+
+  pub found : (pairs : List Pair) (place : ℕ) → place_of (stored_names pairs) name ≡ Some place → IsPlaceOf (map attribute_of pairs) (chars name) place
+  found [] place e = cc
+  found (pair ∷ pairs) place e = by (bytes_eq name (string_bytes pair.name)) refl (place_of (stored_names pairs) name) (found pairs) e
+    where
+      by : (b : Bool) → bytes_eq name (string_bytes pair.name) ≡ b → (r : Option ℕ)
+          → ((k : ℕ) → r ≡ Some k → IsPlaceOf (map attribute_of pairs) (chars name) k)
+          → (if b then Some 0 else option_map suc r) ≡ Some place → IsPlaceOf (map attribute_of (pair ∷ pairs)) (chars name) place
+      by true here r rest e =
+          let front : 0 ≡ place = cc in
+          rw (← front) (record { within = omega arith; named = ap (λ (text : List ℕ). Some (chars text)) (sym (same_text name (string_bytes pair.name) here)) })
+      by false here None rest e = cc
+      by false here (Some k) rest e =
+          let later : suc k ≡ place = cc in
+          rw (← later) (record { within = omega (arith, (rest k refl).within); named = (rest k refl).named })
+
+  pub absent : IsUtf8 name → (pairs : List Pair) → place_of (stored_names pairs) name ≡ None → has_name (map attribute_of pairs) (chars name) ≡ false
+  absent valid [] e = refl
+  absent valid (pair ∷ pairs) e = by (bytes_eq name (string_bytes pair.name)) refl (place_of (stored_names pairs) name) (absent valid pairs) e
+    where
+      by : (b : Bool) → bytes_eq name (string_bytes pair.name) ≡ b → (r : Option ℕ)
+          → (r ≡ None → has_name (map attribute_of pairs) (chars name) ≡ false)
+          → (if b then Some 0 else option_map suc r) ≡ None → has_name (map attribute_of (pair ∷ pairs)) (chars name) ≡ false
+      by true here r rest e = cc
+      by false here None rest e =
+          let other : is_same_text (chars name) (text_of pair.name) ≡ false = sym (bytes_eq-stored name valid pair.name) ∙ here in
+          rw other (rest refl)
+      by false here (Some k) rest e = cc
+
+  -- a name that no attribute has is found nowhere
+  pub place_of-absent : IsUtf8 name → (pairs : List Pair) → has_name (map attribute_of pairs) (chars name) ≡ false → place_of (stored_names pairs) name ≡ None
+  place_of-absent valid [] e = refl
+  place_of-absent valid (pair ∷ pairs) e =
+      let none = both_false (is_same_text (chars name) (text_of pair.name)) (has_name (map attribute_of pairs) (chars name)) e in
+      rw (bytes_eq-stored name valid pair.name ∙ none.0, place_of-absent valid pairs none.1) refl
+
+-- the answer of a search is a place of the name, or there is none
+module _ (name : List ℕ) (valid : IsUtf8 name) (pairs : List Pair) where
+  pub IsPlaceOf-place_of : (r : Option ℕ) → r ≡ place_of (stored_names pairs) name → IfSome r (IsPlaceOf (map attribute_of pairs) (chars name))
+  IsPlaceOf-place_of None e = tt
+  IsPlaceOf-place_of (Some place) e = found name pairs place (sym e)
+
+  pub absent-place_of : (r : Option ℕ) → r ≡ place_of (stored_names pairs) name → IfNone r (has_name (map attribute_of pairs) (chars name) ≡ false)
+  absent-place_of None e = absent name valid pairs (sym e)
+  absent-place_of (Some place) e = tt

@@ -24,16 +24,16 @@ is_same_text-refl a = (bytes_eq-Decides a a).1 refl
 pub is_same_text-sym : (a b : List ℕ) → is_same_text a b ≡ is_same_text b a
 is_same_text-sym a b =
     true_together (is_same_text a b) (is_same_text b a)
-        (λ e. (bytes_eq-Decides b a).1 (sym (same_text a b e)))
-        (λ e. (bytes_eq-Decides a b).1 (sym (same_text b a e)))
+    (λ e. (bytes_eq-Decides b a).1 (sym (same_text a b e)))
+    (λ e. (bytes_eq-Decides a b).1 (sym (same_text b a e)))
 
 -- a comparison of bytes is one of characters
 pub bytes_eq-chars : (a b : List ℕ) → IsUtf8 a → IsUtf8 b → bytes_eq a b ≡ is_same_text (chars a) (chars b)
 bytes_eq-chars a b ua ub =
     true_together (bytes_eq a b) (is_same_text (chars a) (chars b))
-        (λ e. (bytes_eq-Decides (chars a) (chars b)).1 (ap chars (same_text a b e)))
-        (λ e. (bytes_eq-Decides a b).1
-            (sym (encodes-chars a ua) ∙ ap encode_utf8_all (same_text (chars a) (chars b) e) ∙ encodes-chars b ub))
+    (λ e. (bytes_eq-Decides (chars a) (chars b)).1 (ap chars (same_text a b e)))
+    (λ e. (bytes_eq-Decides a b).1
+    (sym (encodes-chars a ua) ∙ ap encode_utf8_all (same_text (chars a) (chars b) e) ∙ encodes-chars b ub))
 
 -- a name that is looked for, against a stored one
 pub bytes_eq-stored : (a : List ℕ) → IsUtf8 a → (s : String Global) → bytes_eq a (string_bytes s) ≡ is_same_text (chars a) (text_of s)

@@ -5,9 +5,11 @@
 #![tactic(auto)]
 
 mod attribute_list;
+mod indexed_pairs;
 mod pairs_in_order;
-
-
+mod stored_pair;
+#[cfg(test)]
+mod tests;
 mod tokens;
 
 pub use attribute_list::AttrList;

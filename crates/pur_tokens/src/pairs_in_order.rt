@@ -1,46 +1,31 @@
-//! Where an attribute list keeps its pairs: a short list in place, or a map in the order of insertion.
+//! Where an attribute list keeps its pairs: a short list without an index, or a long one with an index of its names.
 //!
 //! Nearly all tags have none or one or a few attributes. A `SmallVec` with one place inside needs no allocation of its
-//! own for one pair, and a search along a few names is faster than a look-up. But a stranger can write a tag with more
-//! than a hundred thousand names, where a search for each of them would take quadratic time. So the seventeenth pair
-//! moves all of them into an `IndexMap`, which finds a name in a time that does not depend on their number.
+//! own for one pair, and makes the whole no larger than the long form needs to be; with more places inside, each tag
+//! would carry room for pairs that it doesn't have. A search along a few names is faster than a look-up. But a stranger
+//! can write a tag with more than a hundred thousand names, where a search along all of them for each of them would
+//! take quadratic time. So the seventeenth pair moves all of them into the long form.
 
-ghost use Rattle.std.specs.Prelude.{◌≡◌, ◌<◌, ◌++◌, [], ◌∷◌, false, length, position, remove, slice_get, string_bytes, Some, OnOk, OnErr, IfOk, IfSome, IfNone, IsTrue};
-ghost use Rattle.std.specs.Str.{chars, bytes_eq};
+ghost use Rattle.std.specs.Prelude.{◌≡◌, ◌<◌, ◌++◌, [], ◌∷◌, false, length, remove, slice_get, Some, OnOk, OnErr, IfOk, IfSome, IfNone, IsTrue};
+ghost use Rattle.std.specs.Str.{chars};
 ghost use Rattle.pur_tokens.specs.Texts.{text_of};
 ghost use Rattle.pur_tokens.specs.Attributes.{names_of, values_of, has_name, is_distinct};
-ghost use Rattle.pur_tokens.specs.Storage.{attributes_of, with_value_at, IsPlaceOf};
+ghost use Rattle.pur_tokens.specs.Places.{with_value_at, IsPlaceOf};
+ghost use Rattle.pur_tokens.specs.Storage.{attributes_of};
 
-use indexmap::IndexMap;
+use crate::indexed_pairs::IndexedPairs;
+use crate::stored_pair::{Pair, position_among};
 use smallvec::SmallVec;
 use std::alloc::{AllocError, Global};
-use std::default::MadeWith;
 
 // The most pairs that are searched one by one.
 const FEW: usize = 16;
-
-/// A name and its value.
-#[derive(Drop)]
-pub(crate) struct Pair {
-    name: String,
-    value: String,
-}
-
-// What an unused place of a `SmallVec` holds.
-impl MadeWith<Global> for Pair {
-    fn made_with(alloc: Global) -> Pair {
-        Pair {
-            name: String::new(alloc),
-            value: String::new(alloc),
-        }
-    }
-}
 
 /// Pairs in the order in which they were put, few or many.
 #[derive(Drop)]
 pub(crate) enum PairsInOrder {
     Few(SmallVec<Pair, 1>),
-    Many(IndexMap<String, String>),
+    Many(IndexedPairs),
 }
 
 impl PairsInOrder {
@@ -55,14 +40,14 @@ impl PairsInOrder {
     fn many(alloc: Global) -> PairsInOrder
         ensures { attributes_of result ≡ [] }
     {
-        PairsInOrder::Many(IndexMap::new(alloc))
+        PairsInOrder::Many(IndexedPairs::new(alloc))
     }
 
     /// The allocator of the pairs.
     pub(crate) fn allocator(&self) -> Global {
         match self {
             PairsInOrder::Few(few) => *few.allocator(),
-            PairsInOrder::Many(many) => *many.allocator(),
+            PairsInOrder::Many(many) => many.allocator(),
         }
     }
 
@@ -83,7 +68,7 @@ impl PairsInOrder {
     {
         match self {
             PairsInOrder::Few(few) => few.as_slice()[at].name.as_str(),
-            PairsInOrder::Many(many) => many.get_index(at).unwrap().0.as_str(),
+            PairsInOrder::Many(many) => many.name_at(at),
         }
     }
 
@@ -94,7 +79,7 @@ impl PairsInOrder {
     {
         match self {
             PairsInOrder::Few(few) => few.as_slice()[at].value.as_str(),
-            PairsInOrder::Many(many) => many.get_index(at).unwrap().1.as_str(),
+            PairsInOrder::Many(many) => many.value_at(at),
         }
     }
 
@@ -105,7 +90,7 @@ impl PairsInOrder {
     {
         match self {
             PairsInOrder::Few(few) => position_among(few.as_slice(), name),
-            PairsInOrder::Many(many) => many.get_index_of(name),
+            PairsInOrder::Many(many) => many.position(name),
         }
     }
 
@@ -116,22 +101,21 @@ impl PairsInOrder {
     {
         match self {
             PairsInOrder::Few(few) => few.as_mut_slice()[at].value = value,
-            PairsInOrder::Many(many) => many[at] = value,
+            PairsInOrder::Many(many) => many.replace(at, value),
         }
     }
 
     /// Takes the pair at a place out, and closes up.
     pub(crate) fn take_out(&mut self, at: usize)
-        requires { at < length (attributes_of self.old) }
+        requires within { at < length (attributes_of self.old) }
+        requires distinct { IsTrue (is_distinct (attributes_of self.old)) }
         ensures { attributes_of self.new ≡ remove (attributes_of self.old) at }
     {
         match self {
             PairsInOrder::Few(few) => {
                 few.remove(at);
             }
-            PairsInOrder::Many(many) => {
-                many.shift_remove_index(at);
-            }
+            PairsInOrder::Many(many) => many.take_out(at),
         }
     }
 
@@ -169,7 +153,7 @@ impl PairsInOrder {
                 few.push(Pair { name, value })?;
             }
             PairsInOrder::Many(many) => {
-                many.insert(name, value)?;
+                many.put(name, value)?;
             }
         }
         Ok(())
@@ -202,11 +186,4 @@ impl PairsInOrder {
         }
         Ok(copy)
     }
-}
-
-// The place of a name among the pairs, one after another.
-fn position_among(pairs: &[Pair], name: &str) -> Option<usize>
-    ensures { result ≡ position (λ pair. bytes_eq (string_bytes pair.name) name.now) pairs.now }
-{
-    pairs.iter().position(|pair| pair.name.as_str() == name)
 }

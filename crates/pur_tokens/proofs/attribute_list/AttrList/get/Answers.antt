@@ -7,8 +7,8 @@ use Rattle.pur_tokens.proofs.attribute_list.AttrList.get.Goals as goal
 pub returns-in-Some : goal.returns-in-Some
 returns-in-Some c =
     rw (← c.self.view_is)
-        (sym c.value_at.ensures
-            ∙ value_of-at (attributes_of c.self.inside.pairs) (chars c.args.name.now) c.in-Some.at c.self.invariant c.in-Some.ensures.found.named)
+    (sym c.value_at.ensures
+    ∙ value_of-at (attributes_of c.self.inside.pairs) (chars c.args.name.now) c.in-Some.at c.self.invariant c.in-Some.ensures.found.named)
 
 pub returns-in-None : goal.returns-in-None
 returns-in-None c =

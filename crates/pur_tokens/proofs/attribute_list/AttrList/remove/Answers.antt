@@ -9,7 +9,7 @@ invariant_of-self c =
     let pairs = attributes_of c.self.inside.pairs in
     let name = chars c.args.name.now in
     rw (c.take_out.ensures, remove-at pairs name c.in-Some.at c.self.invariant c.in-Some.ensures.found.named)
-        (is_distinct-without pairs name c.self.invariant)
+    (is_distinct-without pairs name c.self.invariant)
 
 pub returns-in-Some-clause-had : goal.returns-in-Some-clause-had
 returns-in-Some-clause-had c =
@@ -18,7 +18,7 @@ returns-in-Some-clause-had c =
 pub returns-in-Some-clause-rest : goal.returns-in-Some-clause-rest
 returns-in-Some-clause-rest c =
     rw (← c.self.view_is)
-        (c.take_out.ensures ∙ remove-at (attributes_of c.self.inside.pairs) (chars c.args.name.now) c.in-Some.at c.self.invariant c.in-Some.ensures.found.named)
+    (c.take_out.ensures ∙ remove-at (attributes_of c.self.inside.pairs) (chars c.args.name.now) c.in-Some.at c.self.invariant c.in-Some.ensures.found.named)
 
 pub returns-in-None-clause-rest : goal.returns-in-None-clause-rest
 returns-in-None-clause-rest c =
