@@ -1,11 +1,9 @@
 -- Laws of lists of attributes with distinct names.
-use Rattle.std.proofs.Common.{◌≡◌, ℕ, zero, suc, ◌+◌, ◌-◌, ◌^◌, ◌<◌, ◌≤◌, min, add-one, Bool, true, false, not, ◌&&◌, ◌||◌, cond, List, [], ◌∷◌, ◌++◌, length, take, drop, remove, slice_get, map, Option, Some, None, refl, sym, ap, ◌∙◌, arith}
-use Rattle.std.proofs.lemmas.Grind.{common_steps}
-use Rattle.std.proofs.lemmas.List.{map-append}
-use Rattle.std.proofs.lemmas.List.Folds.{list_any-append}
+use Rattle.std.proofs.Common.{◌≡◌, ℕ, zero, suc, ◌+◌, ◌-◌, ◌^◌, ◌≤◌, min, add-one, Bool, true, false, not, ◌&&◌, ◌||◌, cond, List, [], ◌∷◌, ◌++◌, length, take, drop, remove, slice_get, Option, Some, None, refl, sym, ap, ◌∙◌, arith}
+use Rattle.std.proofs.lemmas.List.{append-nil}
 use Rattle.std.specs.Str.{chars, IsUtf8}
 use Rattle.pur_tokens.specs.Texts.{byte_count}
-use Rattle.pur_tokens.specs.Attributes.{Attribute, is_same_text, names_of, values_of, has_name, is_distinct, value_of, with_value, with_new, without, weight_of}
+use Rattle.pur_tokens.specs.Attributes.{Attribute, is_same_text, names_of, values_of, has_name, is_distinct, value_of, with_value, with_new, without, first_of_names, weight_of}
 use Rattle.pur_tokens.specs.Places.{with_value_at}
 use Rattle.pur_tokens.proofs.TextLaws.{same_text, is_same_text-refl, is_same_text-sym, byte_count-chars}
 
@@ -218,3 +216,59 @@ weight_of-past [] zero past = refl
 weight_of-past [] (suc place) past = refl
 weight_of-past (pair ∷ pairs) zero past = absurd (omega arith)
 weight_of-past (pair ∷ pairs) (suc place) past = weight_of-past pairs place (omega arith)
+
+-- a list that is read pair by pair
+
+has_name-without_other : (pairs : List Attribute) (name other : List ℕ) → is_same_text name other ≡ false → has_name (without pairs name) other ≡ has_name pairs other
+has_name-without_other [] name other differs = refl
+has_name-without_other (pair ∷ pairs) name other differs = by (is_same_text name pair.0) refl (has_name-without_other pairs name other differs)
+  where
+    by : (b : Bool) → is_same_text name pair.0 ≡ b → has_name (without pairs name) other ≡ has_name pairs other
+        → has_name (cond (not b) (pair ∷ without pairs name) (without pairs name)) other ≡ (is_same_text other pair.0 || has_name pairs other)
+    by true here rest =
+        let another : is_same_text other pair.0 ≡ false =
+        ap (is_same_text other) (sym (same_text name pair.0 here)) ∙ is_same_text-sym other name ∙ differs in
+        rw another rest
+    by false here rest = ap (λ (b : Bool). is_same_text other pair.0 || b) rest
+
+without-push : (pairs : List Attribute) (name : List ℕ) (pair : Attribute) → without (pairs ++ pair ∷ []) name ≡ without pairs name ++ cond (not (is_same_text name pair.0)) (pair ∷ []) []
+without-push [] name pair = refl
+without-push (first ∷ pairs) name pair = by (is_same_text name first.0) (without-push pairs name pair)
+  where
+    by : (b : Bool) → without (pairs ++ pair ∷ []) name ≡ without pairs name ++ cond (not (is_same_text name pair.0)) (pair ∷ []) []
+        → cond (not b) (first ∷ without (pairs ++ pair ∷ []) name) (without (pairs ++ pair ∷ []) name)
+        ≡ cond (not b) (first ∷ without pairs name) (without pairs name) ++ cond (not (is_same_text name pair.0)) (pair ∷ []) []
+    by true rest = rest
+    by false rest = ap (λ (l : List Attribute). first ∷ l) rest
+
+front_kept : (front : Attribute) (pairs : List Attribute) (pair : Attribute)
+    → front ∷ without (with_new pairs pair.0 pair.1) front.0 ≡ with_new (front ∷ without pairs front.0) pair.0 pair.1
+front_kept front pairs pair = by (is_same_text front.0 pair.0) refl (has_name pairs pair.0) refl
+  where
+    by : (same : Bool) → is_same_text front.0 pair.0 ≡ same → (there : Bool) → has_name pairs pair.0 ≡ there
+        → front ∷ without (with_new pairs pair.0 pair.1) front.0 ≡ with_new (front ∷ without pairs front.0) pair.0 pair.1
+    by true e true h =
+        let front_is : is_same_text pair.0 front.0 ≡ true = is_same_text-sym pair.0 front.0 ∙ e in
+        rw (h, front_is) refl
+    by true e false h =
+        let front_is : is_same_text pair.0 front.0 ≡ true = is_same_text-sym pair.0 front.0 ∙ e in
+        rw (h, front_is, without-push pairs front.0 pair, e) (ap (λ (l : List Attribute). front ∷ l) (append-nil (without pairs front.0)))
+    by false e true h =
+        let other : is_same_text pair.0 front.0 ≡ false = is_same_text-sym pair.0 front.0 ∙ e in
+        rw (h, other, has_name-without_other pairs front.0 pair.0 e, h) refl
+    by false e false h =
+        let other : is_same_text pair.0 front.0 ≡ false = is_same_text-sym pair.0 front.0 ∙ e in
+        rw (h, other, has_name-without_other pairs front.0 pair.0 e, h, without-push pairs front.0 pair, e) refl
+
+-- one more pair at the end is kept where its name is new
+pub first_of_names-push : (pairs : List Attribute) (pair : Attribute) → first_of_names (pairs ++ pair ∷ []) ≡ with_new (first_of_names pairs) pair.0 pair.1
+first_of_names-push [] pair = refl
+first_of_names-push (first ∷ pairs) pair =
+    ap (λ (l : List Attribute). first ∷ without l first.0) (first_of_names-push pairs pair) ∙ front_kept first (first_of_names pairs) pair
+
+-- names that are distinct are all kept
+pub first_of_names-distinct : (pairs : List Attribute) → is_distinct pairs ≡ true → first_of_names pairs ≡ pairs
+first_of_names-distinct [] distinct = refl
+first_of_names-distinct (pair ∷ pairs) distinct =
+    ap (λ (l : List Attribute). pair ∷ without l pair.0) (first_of_names-distinct pairs (rest_is_distinct pair pairs distinct))
+    ∙ ap (λ (l : List Attribute). pair ∷ l) (without-absent pairs pair.0 (first_is_new pair pairs distinct))

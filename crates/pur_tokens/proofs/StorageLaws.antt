@@ -1,12 +1,10 @@
 -- What stored pairs hold, as lists of attributes.
-use Rattle.std.proofs.Common.{◌≡◌, ℕ, zero, suc, ◌+◌, ◌<◌, nat_lt, Bool, true, false, not, ◌||◌, cond, if◌then◌else◌, List, [], ◌∷◌, ◌++◌, length, get_or, set, remove, slice_get, slice_index_or, map, position, Option, Some, None, IfSome, IfNone, String, string_bytes, refl, sym, ap, ◌∙◌, arith}
+use Rattle.std.proofs.Common.{◌≡◌, ℕ, zero, suc, ◌+◌, ◌<◌, nat_lt, Bool, true, false, not, cond, if◌then◌else◌, List, [], ◌∷◌, length, get_or, set, remove, slice_get, slice_index_or, map, position, Option, Some, None, IfSome, IfNone, String, string_bytes, refl, sym, ap, ◌∙◌, arith}
 use Rattle.std.specs.List.{position_or_len, refill}
 use Rattle.std.specs.Str.{chars, bytes_eq, IsUtf8}
 use Rattle.std.specs.Option.{option_map}
 use Rattle.std.specs.declared.alloc.Global.{Global}
 use Rattle.std.proofs.lemmas.Grind.{common_steps}
-use Rattle.std.proofs.lemmas.List.{length-map}
-use Rattle.std.proofs.lemmas.Str.{IsUtf8-string_bytes}
 use Rattle.pur_tokens.specs.Texts.{text_of}
 use Rattle.pur_tokens.specs.Attributes.{Attribute, is_same_text, names_of, values_of, has_name}
 use Rattle.pur_tokens.specs.Places.{with_value_at, IsPlaceOf, place_of}

@@ -48,6 +48,11 @@ with_new pairs name value = if has_name pairs name then pairs else pairs ++ (nam
 abbrev pub without : List Attribute → List ℕ → List Attribute
 without pairs name = filter (λ pair. not (is_same_text name pair.0)) pairs
 
+-- the attributes, with each left out whose name stands earlier (HTML: of equal names the first is kept)
+abbrev pub first_of_names : List Attribute → List Attribute
+first_of_names [] = []
+first_of_names (pair ∷ pairs) = pair ∷ without (first_of_names pairs) pair.0
+
 -- the bytes of all names and values
 abbrev pub weight_of : List Attribute → ℕ
 weight_of [] = 0

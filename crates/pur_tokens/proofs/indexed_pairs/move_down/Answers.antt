@@ -1,4 +1,4 @@
-use Rattle.std.proofs.Common.{◌≡◌, ◌∙◌, map, ap, ℕ, List, string_bytes, String, nat_cmp, rules}
+use Rattle.std.proofs.Common.{◌≡◌, ◌∙◌, map, ap, string_bytes, String, nat_cmp, rules}
 use Rattle.std.specs.BTreeMap.{is_at}
 use Rattle.std.specs.Cmp.Lexicographic.{slice_cmp}
 use Rattle.std.specs.Map.{lookup}
