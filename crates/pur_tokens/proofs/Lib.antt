@@ -1,0 +1,4 @@
+pub mod TextLaws
+pub mod AttributeLaws
+pub mod StorageLaws
+pub mod IndexLaws

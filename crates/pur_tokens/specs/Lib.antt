@@ -1,0 +1,6 @@
+pub mod Texts
+pub mod Attributes
+pub mod Places
+pub mod Pairs
+pub mod Storage
+pub mod Tokens

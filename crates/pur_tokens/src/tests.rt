@@ -1,0 +1,125 @@
+//! Lists as a reader writes them, and one that grows past what is searched one by one.
+
+use crate::{AttrList, Tag, Token};
+use std::alloc::{AllocError, Global};
+
+// The list of pairs such as `a=1 b=2`, put one after another.
+fn list_of(alloc: Global, text: &str) -> Result<AttrList, AllocError> {
+    let mut list = AttrList::new(alloc);
+    for word in text.split(' ') {
+        if let Some((name, value)) = word.split_once('=') {
+            let name = String::from_str(alloc, name)?;
+            let value = String::from_str(alloc, value)?;
+            list.push_if_new(name, value)?;
+        }
+    }
+    Ok(list)
+}
+
+// The pairs as such a text.
+fn text_of(alloc: Global, list: &AttrList) -> Result<String, AllocError> {
+    let mut text = String::new(alloc);
+    for at in 0..list.len() {
+        if at > 0 {
+            text.push(' ')?;
+        }
+        text.push_str(list.name_at(at))?;
+        text.push('=')?;
+        text.push_str(list.value_at(at))?;
+    }
+    Ok(text)
+}
+
+#[test]
+fn of_equal_names_the_first_is_kept(rt: HostRuntime) -> Result<(), AllocError> {
+    let rows = [
+        ("no attribute", "", "", 0u64),
+        ("one", "id=x", "id=x", 3),
+        ("equal names", "href=a id=x href=b", "href=a id=x", 8),
+        ("names in another case", "ID=x id=y", "ID=x id=y", 6),
+        ("an empty value stays", "alt= alt=t", "alt=", 3),
+        ("letters of two bytes", "é=ü", "é=ü", 4),
+    ];
+    for (row, pushed, kept, weight) in rows {
+        let list = list_of(rt.alloc(), pushed)?;
+        assert_eq!(rt; text_of(rt.alloc(), &list)?.as_str(), kept, "{row}");
+        assert_eq!(rt; list.weight(), weight, "{row}");
+        assert_eq!(rt; list.is_empty(), kept.is_empty(), "{row}");
+    }
+    Ok(())
+}
+
+#[test]
+fn values_are_set_and_removed_by_name(rt: HostRuntime) -> Result<(), AllocError> {
+    let rows = [
+        ("in its place", "a=1 b=2 c=3", "b", "a=1 b=9 c=3", "a=1 c=3"),
+        ("at the front", "a=1 b=2", "a", "a=9 b=2", "b=2"),
+        ("a new name", "a=1", "b", "a=1 b=9", "a=1"),
+        ("in an empty list", "", "a", "a=9", ""),
+        ("a longer name", "a=1", "aa", "a=1 aa=9", "a=1"),
+    ];
+    for (row, before, name, set, removed) in rows {
+        let mut list = list_of(rt.alloc(), before)?;
+        let had = list.get(name).is_some();
+        list.set(name, "9")?;
+        assert_eq!(rt; text_of(rt.alloc(), &list)?.as_str(), set, "{row}: set");
+        assert_eq!(rt; list.get(name), Some("9"), "{row}: get");
+        assert_eq!(rt; list.remove(name), true, "{row}: remove");
+        assert_eq!(rt; list.remove(name), false, "{row}: remove again");
+        assert_eq!(rt;
+            text_of(rt.alloc(), &list)?.as_str(),
+            removed,
+            "{row}: removed, had {had}"
+        );
+    }
+    Ok(())
+}
+
+#[test]
+fn a_long_list_keeps_its_order(rt: HostRuntime) -> Result<(), AllocError> {
+    let alloc = rt.alloc();
+    let mut list = AttrList::new(alloc);
+    for at in 0..100u32 {
+        let name = format!(in alloc; "name{at}")?;
+        let again = name.clone()?;
+        let value = format!(in alloc; "value{at}")?;
+        assert!(rt; list.push_if_new(name, value)?);
+        assert!(rt; !list.push_if_new(again, String::new(alloc))?);
+    }
+    assert_eq!(rt; list.len(), 100);
+    assert_eq!(rt; list.weight(), 10 * 11 + 90 * 13);
+    list.set("name16", "sixteen")?;
+    list.set("last", "")?;
+    assert!(rt; list.remove("name15"));
+    assert!(rt; !list.remove("name100"));
+    let copy = list.copy()?;
+    for pairs in [&list, &copy] {
+        assert_eq!(rt; pairs.len(), 100);
+        assert_eq!(rt; pairs.get("name0"), Some("value0"));
+        assert_eq!(rt; pairs.get("name15"), None);
+        assert_eq!(rt; pairs.get("name16"), Some("sixteen"));
+        assert_eq!(rt; pairs.get("name99"), Some("value99"));
+    }
+    if copy.len() == 100 {
+        assert_eq!(rt; copy.name_at(14), "name14");
+        assert_eq!(rt; copy.name_at(15), "name16");
+        assert_eq!(rt; copy.value_at(15), "sixteen");
+        assert_eq!(rt; copy.name_at(99), "last");
+    }
+    Ok(())
+}
+
+#[test]
+fn tokens_carry_their_texts(rt: HostRuntime) -> Result<(), AllocError> {
+    let alloc = rt.alloc();
+    let name = String::from_str(alloc, "img")?;
+    let attrs = list_of(alloc, "src=a.png alt=A")?;
+    match Token::Empty(Tag { name, attrs }) {
+        Token::Empty(tag) => {
+            assert_eq!(rt; tag.name.as_str(), "img");
+            assert_eq!(rt; tag.attrs.get("alt"), Some("A"));
+        }
+        _ => assert!(rt; false, "an empty tag stays one"),
+    }
+    Ok(())
+}
