@@ -1,3 +1,5 @@
 pub mod CutLemmas
 pub mod MarkLemmas
+pub mod PlaceLemmas
 pub mod SpellingLemmas
+pub mod TagLemmas
