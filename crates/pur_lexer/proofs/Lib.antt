@@ -3,3 +3,4 @@ pub mod MarkLemmas
 pub mod PlaceLemmas
 pub mod SpellingLemmas
 pub mod TagLemmas
+pub mod TagEndLemmas

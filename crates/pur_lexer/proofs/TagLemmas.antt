@@ -134,3 +134,11 @@ one_new attrs name value = refl
 pub none_new : (attrs : List Attribute) → with_all_new attrs [] ≡ attrs
 unfolding with_all_new
 none_new attrs = refl
+
+-- the same, with the name lowered
+pub named_here : (bytes t name behind spaced : List ℕ) → IsUtf8 bytes → (length bytes ≡ 0 → ⊥) → chars bytes ≡ run_to (begins_with ends_attribute_name) t
+    → behind ≡ rest_from (begins_with ends_attribute_name) t → spaced ≡ rest_from (begins_with ends_space) behind → name ≡ chars (map to_ascii_lowercase bytes)
+    → attribute_at t ≡ attribute_behind name spaced
+named_here bytes t name behind spaced is some run rest space lower =
+    attribute_at-named bytes t is some run
+    ∙ (λ i. attribute_behind (sym (lower ∙ lowered-chars bytes is) i) (sym (space ∙ ap (rest_from (begins_with ends_space)) rest) i))
