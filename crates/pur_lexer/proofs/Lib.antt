@@ -1,3 +1,4 @@
+pub mod ConstructLemmas
 pub mod CutLemmas
 pub mod MarkLemmas
 pub mod PlaceLemmas

@@ -67,15 +67,20 @@ unfoldable pub tag_of : List ℕ → Construct
 tag_of text =
     tag_by_end (lowered (run_to (begins_with ends_tag_name) text)) (tag_end (rest_from (begins_with ends_tag_name) text))
 
+-- a tag, where a `<` begins one before this text, and else the text `<`
+unfoldable pub tag_or_text : List ℕ → Construct
+tag_or_text text =
+    if begins_with (is_character 0x2F) text && begins_with is_letter (drop 1 text) then through_mark (codes ">") end_tag_of (drop 1 text)
+    else (if begins_with is_letter text then tag_of text
+    else gives_one (text_token (codes "<")) text)
+
 -- what a `<` begins before this text, by the first row that applies
 unfoldable pub markup_of : List ℕ → Construct
 markup_of text =
     if begins_with_mark (codes "!--") text then through_mark (codes "-->") comment_token (drop 3 text)
     else (if begins_with_mark (codes "![CDATA[") text then through_mark (codes "]]>") text_token (drop 8 text)
     else (if begins_with (is_character 0x21) text || begins_with (is_character 0x3F) text then through_mark (codes ">") comment_token (drop 1 text)
-    else (if begins_with (is_character 0x2F) text && begins_with is_letter (drop 1 text) then through_mark (codes ">") end_tag_of (drop 1 text)
-    else (if begins_with is_letter text then tag_of text
-    else gives_one (text_token (codes "<")) text))))
+    else tag_or_text text))
 
 -- any other text runs to the next `<`, and its references are read
 abbrev pub plain_text : List ℕ → Construct

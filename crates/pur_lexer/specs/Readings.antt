@@ -1,7 +1,9 @@
 -- What is read so far, and what follows.
-use Rattle.std.specs.Prelude.{ℕ, Bool, List, [], ◌∷◌}
+use Rattle.std.specs.Prelude.{ℕ, Option, None, Some, Bool, List, [], ◌∷◌}
 use Rattle.pur_tokens.specs.Attributes.{Attribute, with_new}
+use Rattle.pur_tokens.specs.Tokens.{PlainToken}
 use Rattle.pur_lexer.specs.Tags.{TagEnd}
+use Rattle.pur_lexer.specs.Constructs.{Construct, gives_one}
 
 -- attributes with others put behind them one by one, each if its name is new
 unfoldable pub with_all_new : List Attribute → List Attribute → List Attribute
@@ -15,3 +17,8 @@ tag_end_with attrs is_empty rest = record { attrs = attrs; is_empty = is_empty; 
 -- the end of a tag before which these attributes were read
 abbrev pub tag_end_after : List Attribute → TagEnd → TagEnd
 tag_end_after attrs tag = record { attrs = with_all_new attrs tag.attrs; is_empty = tag.is_empty; rest = tag.rest }
+
+-- the construct with this token, or with none, before this text
+abbrev pub construct_with : Option PlainToken → List ℕ → Construct
+construct_with None rest = record { gives = []; rest = rest }
+construct_with (Some token) rest = gives_one token rest

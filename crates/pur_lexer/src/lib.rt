@@ -4,6 +4,7 @@
 #![tactic(auto)]
 
 mod attributes;
+mod constructs;
 mod cuts;
 mod marks;
 mod places;
