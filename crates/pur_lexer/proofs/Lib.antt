@@ -1,5 +1,6 @@
 pub mod ConstructLemmas
 pub mod CutLemmas
+pub mod LexLemmas
 pub mod MarkLemmas
 pub mod PlaceLemmas
 pub mod SpellingLemmas

@@ -114,7 +114,7 @@ attribute_at-further c t = by (ends_attribute_name c)
         (from_place (begins_with ends_attribute_name) t)
 
 -- where a tag goes on
-abbrev GoesOn : Step → List ℕ → Type 0
+abbrev pub GoesOn : Step → List ℕ → Type 0
 GoesOn (end_step is_empty rest) t = IsRestOf rest t
 GoesOn (attribute_step read) t = IsRestOf read.rest t
 
@@ -138,7 +138,7 @@ step_behind-further skipped c t = by (begins_with (is_character 0x3E) (c ∷ t))
     by true = whole t
     by false = attribute_at-further c t
 
-step_of-goes : (c : ℕ) (t : List ℕ) → GoesOn (step_of (c ∷ t)) t
+pub step_of-goes : (c : ℕ) (t : List ℕ) → GoesOn (step_of (c ∷ t)) t
 unfolding step_of run_to rest_from
 step_of-goes c t = by (ends_gap c)
   where

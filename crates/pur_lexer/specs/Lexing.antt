@@ -26,3 +26,12 @@ joined (token ∷ tokens) = token ∷ joined tokens
 -- the tokens of a text
 unfoldable pub tokens_of : List ℕ → List PlainToken
 tokens_of text = joined (given_behind 0 text)
+
+-- the token that a text is, which the empty text isn't
+abbrev pub text_alone : List ℕ → List PlainToken
+text_alone [] = []
+text_alone (c ∷ text) = text_token (c ∷ text) ∷ []
+
+-- tokens that were read, then a run of text that was read behind them, then what is read next
+unfoldable pub read_on : List PlainToken → List ℕ → List PlainToken → List PlainToken
+read_on done run next = done ++ text_before run (joined next)

@@ -1,7 +1,8 @@
 -- What is read so far, and what follows.
 use Rattle.std.specs.Prelude.{ℕ, Option, None, Some, Bool, List, [], ◌∷◌}
 use Rattle.pur_tokens.specs.Attributes.{Attribute, with_new}
-use Rattle.pur_tokens.specs.Tokens.{PlainToken}
+use Rattle.pur_tokens.specs.Tokens.{PlainToken, plain_token}
+use Rattle.pur_tokens.specs.declared.tokens.Token.{Token}
 use Rattle.pur_lexer.specs.Tags.{TagEnd}
 use Rattle.pur_lexer.specs.Constructs.{Construct, gives_one}
 
@@ -22,3 +23,8 @@ tag_end_after attrs tag = record { attrs = with_all_new attrs tag.attrs; is_empt
 abbrev pub construct_with : Option PlainToken → List ℕ → Construct
 construct_with None rest = record { gives = []; rest = rest }
 construct_with (Some token) rest = gives_one token rest
+
+-- what a construct gives that has this token, or none
+abbrev pub tokens_given : Option Token → List PlainToken
+tokens_given None = []
+tokens_given (Some token) = plain_token token ∷ []

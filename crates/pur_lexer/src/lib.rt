@@ -6,7 +6,9 @@
 mod attributes;
 mod constructs;
 mod cuts;
+mod lexing;
 mod marks;
 mod places;
 
+pub use lexing::lex;
 pub use marks::{Mark, read_marks, spelling_is_read};
