@@ -1,11 +1,11 @@
 -- What a `<` begins, by the first row that applies.
-use Rattle.std.proofs.Common.{◌≡◌, ◌≢◌, ℕ, ◌<◌, Bool, true, false, cond, List, [], ◌∷◌, ◌++◌, length, take, drop, map, nat_eq, Option, None, Some, option_map, codes, refl, sym, ap, subst, ◌∙◌, arith, ⊎_elim, encode_utf8_all, IsUtf8, lit<, true≢false, ◌≤◌, ◌⊎◌, inl, inr, slice_get}
-use Rattle.std.specs.Prelude.{◌&&◌, ◌||◌, ◌==◌, IsTrue}
+use Rattle.std.proofs.Common.{◌≡◌, ◌≢◌, ℕ, ◌<◌, Bool, true, false, cond, List, [], ◌∷◌, ◌++◌, length, drop, map, nat_eq, Option, None, Some, codes, refl, sym, ap, subst, ◌∙◌, arith, ⊎_elim, encode_utf8_all, IsUtf8, lit<, true≢false, ◌≤◌, ◌⊎◌, inl, inr, slice_get}
+use Rattle.std.specs.Prelude.{◌&&◌, ◌||◌}
 use Rattle.std.specs.List.{list_all}
 use Rattle.std.specs.Cmp.Lexicographic.{pointwise}
-use Rattle.std.specs.Str.{chars, bytes_eq}
+use Rattle.std.specs.Str.{chars}
 use Rattle.std.proofs.lemmas.Bool.Decides.{nat_tests}
-use Rattle.std.proofs.lemmas.Bool.{cases_Bool, or_cases}
+use Rattle.std.proofs.lemmas.Bool.{or_cases}
 use Rattle.std.proofs.lemmas.Slice.Eq.{bytes_eq-Decides, slice_eq-Decides}
 use Rattle.std.proofs.lemmas.Bool.Decides.{Decides-eqb}
 use Rattle.std.specs.Char.{to_ascii_lowercase}
@@ -20,7 +20,7 @@ use Rattle.pur_lexer.specs.Tags.{lowered, is_letter, ends_tag_name, TagEnd, tag_
 use Rattle.pur_lexer.specs.Cutting.{IsMark}
 use Rattle.pur_lexer.specs.Constructs.{Construct, dropped, gives_one, closed_by, through_mark, end_tag_of, is_hiding, is_end_mark, hidden_of, tag_by_end, tag_of, tag_or_text, markup_of}
 use Rattle.pur_lexer.proofs.CutLemmas.{begins_not}
-use Rattle.pur_lexer.proofs.PlaceLemmas.{not_true, IsPlainTest, first_is_plain}
+use Rattle.pur_lexer.proofs.PlaceLemmas.{first_is_plain}
 
 -- the rows of markup
 pub markup-comment : (t : List ℕ) → markup_of (codes "!--" ++ t) ≡ through_mark (codes "-->") comment_token t
@@ -149,8 +149,8 @@ hiding_is cs e = ⊎_elim
 
 hiding_ascii : (cs : List ℕ) → is_hiding cs ≡ true → IsMark cs
 hiding_ascii cs e = ⊎_elim
-    (λ (a : cs ≡ codes "script"). subst IsMark (sym a) (record { some = lit< tt; ascii = refl; }))
-    (λ (b : cs ≡ codes "style"). subst IsMark (sym b) (record { some = lit< tt; ascii = refl; }))
+    (λ (a : cs ≡ codes "script"). subst IsMark (sym a) (record { some = lit< tt; ascii = refl }))
+    (λ (b : cs ≡ codes "style"). subst IsMark (sym b) (record { some = lit< tt; ascii = refl }))
     (hiding_is cs e)
 
 pub hiding_same : (bytes : List ℕ) → IsUtf8 bytes → is_hiding (chars bytes) ≡ true → chars bytes ≡ bytes

@@ -1,6 +1,5 @@
 -- How a text is cut at its tags, as bytes and as characters, and how the marks that are read add up.
-use Rattle.std.proofs.Common.{◌≡◌, ◌≢◌, ℕ, ◌+◌, ◌≤◌, Bool, true, false, not, List, [], ◌∷◌, ◌++◌, drop, map, length, Option, None, Some, option_map, nat_eq, refl, ap, sym, ◌∙◌, arith, append_assoc, append-nil, encode_utf8_all, string_bytes, IsTrue, Bor, lit<}
-use Rattle.std.specs.Prelude.{◌==◌}
+use Rattle.std.proofs.Common.{◌≡◌, ◌≢◌, ℕ, ◌+◌, ◌≤◌, Bool, true, false, List, [], ◌∷◌, ◌++◌, drop, map, length, Option, None, Some, option_map, nat_eq, refl, ap, sym, ◌∙◌, arith, append_assoc, append-nil, encode_utf8_all, IsTrue, Bor, lit<}
 use Rattle.std.specs.List.{starts_with, list_all}
 use Rattle.std.specs.Option.{MatchOption}
 use Rattle.std.specs.Str.{chars, IsUtf8}

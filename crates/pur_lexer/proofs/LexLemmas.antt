@@ -1,5 +1,5 @@
 -- How the tokens that are read add up.
-use Rattle.std.proofs.Common.{◌≡◌, ℕ, zero, suc, ◌-◌, Bool, true, false, not, cond, List, [], ◌∷◌, ◌++◌, length, drop, map, Option, None, Some, option_map, refl, sym, ap, ◌∙◌, arith, append_assoc, append-nil, IsUtf8, lit<, encode_utf8_all, codes}
+use Rattle.std.proofs.Common.{◌≡◌, ℕ, zero, suc, ◌-◌, Bool, true, false, not, cond, List, [], ◌∷◌, ◌++◌, length, drop, Option, None, Some, option_map, refl, sym, ap, ◌∙◌, arith, append_assoc, append-nil, IsUtf8, lit<, encode_utf8_all, codes}
 use Rattle.std.specs.Prelude.{◌==◌, ◌&&◌, ◌||◌, IsTrue, IfSome}
 use Rattle.std.specs.List.{list_all}
 use Rattle.std.specs.Str.{chars}
@@ -14,7 +14,7 @@ use Rattle.pur_tokens.specs.Attributes.{Attribute}
 use Rattle.pur_lexer.specs.Marks.{is_text_character}
 use Rattle.pur_lexer.specs.Places.{begins_with, begins_with_mark, is_character, run_to, rest_from}
 use Rattle.pur_lexer.specs.Tags.{Step, end_step, attribute_step, TagEnd, with_attributes, end_by_step, step_of, tag_end_behind, tag_end, with_first_of_names, lowered, ends_tag_name, is_letter}
-use Rattle.pur_lexer.specs.Constructs.{Construct, dropped, gives_one, closed_by, through_mark, end_tag_of, is_hiding, is_end_mark, hidden_of, tag_by_end, tag_of, tag_or_text, markup_of, plain_text, construct_of}
+use Rattle.pur_lexer.specs.Constructs.{Construct, gives_one, closed_by, through_mark, end_tag_of, is_hiding, is_end_mark, hidden_of, tag_by_end, tag_of, tag_or_text, markup_of, plain_text, construct_of}
 use Rattle.pur_lexer.specs.Lexing.{given_behind, text_before, joined, tokens_of, text_alone, read_on}
 use Rattle.pur_lexer.specs.Readings.{construct_with, tokens_given}
 use Rattle.pur_lexer.proofs.CutLemmas.{run_passes}

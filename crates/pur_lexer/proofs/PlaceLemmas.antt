@@ -1,11 +1,11 @@
 -- A text that is cut at a place, in bytes and in characters.
-use Rattle.std.proofs.Common.{◌≡◌, ℕ, zero, suc, ◌+◌, ◌-◌, add-one, take_all, ◌<◌, ◌≤◌, Bool, true, false, List, [], ◌∷◌, ◌++◌, length, take, drop, get_or, cond, nat_eq, refl, sym, ap, subst, ◌∙◌, arith, ⊎_elim, take-append-drop, append-nil, append_assoc, encode_utf8, encode_utf8_all, IsUtf8, Option, None, Some, MatchOption, codes, lit<}
-use Rattle.std.specs.Prelude.{◌&&◌, ◌==◌, nat_lt, IsTrue}
+use Rattle.std.proofs.Common.{◌≡◌, ℕ, zero, suc, ◌+◌, ◌-◌, add-one, take_all, ◌<◌, ◌≤◌, Bool, true, false, List, [], ◌∷◌, ◌++◌, length, take, drop, get_or, cond, nat_eq, refl, sym, ap, ◌∙◌, arith, ⊎_elim, append-nil, encode_utf8, encode_utf8_all, IsUtf8, Option, None, Some, MatchOption, codes, lit<}
+use Rattle.std.specs.Prelude.{◌&&◌, ◌==◌}
 use lib.Utf8.{scalars, scalar}
 use Rattle.std.specs.Char.{to_ascii_lowercase}
-use Rattle.std.specs.List.{starts_with, list_all}
+use Rattle.std.specs.List.{list_all}
 use Rattle.std.specs.Str.{chars, IsCharBoundary}
-use Rattle.std.proofs.lemmas.Bool.{cases_Bool, cases_lt, and_parts, and_from}
+use Rattle.std.proofs.lemmas.Bool.{cases_lt, and_parts, and_from}
 use Rattle.std.proofs.lemmas.Bool.Decides.{nat_tests}
 use Rattle.std.proofs.lemmas.List.{append_cancel_left}
 use Rattle.std.proofs.lemmas.Str.{chars-encodes, encode_ascii, encodes-append, encodes-IsAscii, chars-nil, chars_past_char, inside_one, length-encode, len_utf8_bounds, IsCharBoundary-from_take}

@@ -1,7 +1,7 @@
 -- The definitions on small texts.
-use Rattle.std.proofs.Common.{◌≡◌, [], ◌∷◌, codes, refl, Some}
-use Rattle.pur_entities.specs.References.{decoded, decoded_behind, before_semicolon, number_meant}
-use Rattle.pur_tokens.specs.Tokens.{text_token, start_token, end_token, empty_token, hidden_token, comment_token}
+use Rattle.std.proofs.Common.{◌≡◌, [], ◌∷◌, codes, refl}
+use Rattle.pur_entities.specs.References.{decoded, decoded_behind}
+use Rattle.pur_tokens.specs.Tokens.{text_token, start_token, empty_token, hidden_token, comment_token}
 use Rattle.pur_lexer.specs.Places.{run_to, rest_from}
 use Rattle.pur_lexer.specs.Tags.{raw_value, attribute_behind, named_attribute, attribute_at, ends_with_slash, step_behind, step_of, tag_end_behind, tag_end}
 use Rattle.pur_lexer.specs.Constructs.{through_mark, begins_with_name, is_end_mark, hidden_of, tag_of, tag_or_text, markup_of, construct_of}

@@ -1,9 +1,8 @@
 -- How a tag is read step by step.
-use Rattle.std.proofs.Common.{◌≡◌, ℕ, zero, suc, ◌-◌, ◌<◌, ◌≤◌, Bool, true, false, cond, List, [], ◌∷◌, ◌++◌, length, take, drop, Option, None, Some, option_map, refl, sym, ap, subst, ◌∙◌, arith, ⊎_elim, append_assoc, append-nil, take-append-drop, encode_utf8_all, string_bytes, IsUtf8, lit<, MatchBool}
-use Rattle.std.specs.Prelude.{◌==◌}
+use Rattle.std.proofs.Common.{◌≡◌, ℕ, zero, suc, ◌-◌, ◌<◌, ◌≤◌, Bool, true, false, cond, List, [], ◌∷◌, ◌++◌, length, take, drop, Option, None, Some, option_map, refl, sym, ap, ◌∙◌, arith, ⊎_elim, append_assoc, append-nil, take-append-drop, encode_utf8_all, IsUtf8}
 use Rattle.std.specs.Str.{chars}
 use Rattle.std.specs.List.{list_all}
-use Rattle.std.proofs.lemmas.Bool.{cases_Bool, cases_lt, and_from, eqb-true}
+use Rattle.std.proofs.lemmas.Bool.{cases_lt, and_from, eqb-true}
 use Rattle.std.proofs.lemmas.Bool.Decides.{nat_tests}
 use Rattle.std.proofs.lemmas.List.Prefix.{end_rest}
 use Rattle.pur_entities.proofs.CutLemmas.{is_ascii, same_chars}
@@ -12,7 +11,7 @@ use Rattle.std.proofs.lemmas.Str.{chars-nil, encodes-chars}
 use Rattle.pur_tokens.specs.Attributes.{Attribute, with_new, first_of_names}
 use Rattle.pur_tokens.proofs.AttributeLaws.{first_of_names-push}
 use Rattle.pur_lexer.specs.Places.{begins_with, is_character, run_to, rest_from}
-use Rattle.pur_lexer.specs.Tags.{ends_gap, ends_space, ends_attribute_name, ends_bare_value, lowered, RawValue, raw_value, quoted_value, bare_value, with_raw_value, ReadAttributes, attribute_behind, named_attribute, attribute_at, Step, end_step, attribute_step, ends_with_slash, step_behind, step_of, TagEnd, with_attributes, end_by_step, tag_end_behind, with_first_of_names, tag_end}
+use Rattle.pur_lexer.specs.Tags.{ends_gap, ends_space, ends_attribute_name, ends_bare_value, lowered, raw_value, quoted_value, bare_value, with_raw_value, attribute_behind, named_attribute, attribute_at, Step, end_step, attribute_step, ends_with_slash, step_behind, step_of, TagEnd, with_attributes, end_by_step, tag_end_behind, with_first_of_names, tag_end}
 use Rattle.pur_lexer.specs.Readings.{with_all_new, tag_end_after}
 
 -- the text is what stands behind some of the characters of another
@@ -28,20 +27,20 @@ drop_twice j (suc k) (c ∷ t) = let later = drop_twice j k t in (suc later.0, l
 pub rest_of_rest : (a b t : List ℕ) → IsRestOf a b → IsRestOf b t → IsRestOf a t
 rest_of_rest a b t x y =
     let twice = drop_twice x.place y.place t in
-    record { place = twice.0; is = x.is ∙ ap (drop x.place) y.is ∙ twice.1; }
+    record { place = twice.0; is = x.is ∙ ap (drop x.place) y.is ∙ twice.1 }
 
 pub behind : (n : ℕ) (t : List ℕ) → IsRestOf (drop n t) t
-behind n t = record { place = n; is = refl; }
+behind n t = record { place = n; is = refl }
 
 pub whole : (t : List ℕ) → IsRestOf t t
-whole t = record { place = 0; is = refl; }
+whole t = record { place = 0; is = refl }
 
 pub further : (c : ℕ) (rest t : List ℕ) → IsRestOf rest t → IsRestOf rest (c ∷ t)
-further c rest t h = record { place = suc h.place; is = h.is; }
+further c rest t h = record { place = suc h.place; is = h.is }
 
 pub from_place : (test : List ℕ → Bool) (t : List ℕ) → IsRestOf (rest_from test t) t
 unfolding rest_from
-from_place test [] = record { place = 0; is = refl; }
+from_place test [] = record { place = 0; is = refl }
 from_place test (c ∷ t) = by (test (c ∷ t)) (from_place test t)
   where
     by : (b : Bool) → IsRestOf (rest_from test t) t → IsRestOf (cond b (c ∷ t) (rest_from test t)) (c ∷ t)

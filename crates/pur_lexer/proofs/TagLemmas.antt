@@ -1,16 +1,15 @@
 -- How the attributes of a tag are read one by one.
-use Rattle.std.proofs.Common.{◌≡◌, ◌≢◌, ℕ, zero, suc, ◌-◌, ◌<◌, ◌≤◌, Bool, true, false, cond, List, [], ◌∷◌, ◌++◌, length, take, drop, map, get_or, Option, None, Some, option_map, refl, sym, ap, subst, ◌∙◌, arith, ⊎_elim, append-nil, append_assoc, encode_utf8, encode_utf8_all, IsUtf8, lit<}
-use Rattle.std.specs.Prelude.{◌==◌, ◌&&◌, nat_lt, not}
+use Rattle.std.proofs.Common.{◌≡◌, ◌≢◌, ℕ, suc, ◌<◌, ◌≤◌, true, false, List, [], ◌∷◌, ◌++◌, length, drop, map, refl, sym, ap, ◌∙◌, arith, ⊎_elim, encode_utf8, encode_utf8_all, IsUtf8}
+use Rattle.std.specs.Prelude.{◌==◌, ◌&&◌, nat_lt}
 use lib.Utf8.{scalar, scalars}
 use Rattle.std.specs.Char.{to_ascii_lowercase}
 use Rattle.std.specs.Str.{chars}
-use Rattle.std.proofs.lemmas.Bool.{cases_Bool, cases_lt, and_parts, and_from}
+use Rattle.std.proofs.lemmas.Bool.{cases_lt, and_parts, and_from}
 use Rattle.std.proofs.lemmas.Bool.Decides.{nat_tests}
 use Rattle.std.proofs.lemmas.List.{map-append}
 use Rattle.std.proofs.lemmas.Str.{chars-encodes, chars-nil, encodes-chars, encode_ascii}
 use Rattle.std.proofs.lemmas.Str.Ascii.{lowercase_ascii}
-use Rattle.pur_tokens.specs.Attributes.{Attribute, with_new, first_of_names}
-use Rattle.pur_tokens.proofs.AttributeLaws.{first_of_names-push}
+use Rattle.pur_tokens.specs.Attributes.{Attribute, with_new}
 use Rattle.pur_lexer.specs.Places.{begins_with, is_character, run_to, rest_from}
 use Rattle.pur_lexer.specs.Tags.{ends_space, ends_attribute_name, with_raw_value, lowered, raw_value, quoted_value, bare_value, attribute_behind, named_attribute, attribute_at}
 use Rattle.pur_lexer.specs.Readings.{with_all_new}

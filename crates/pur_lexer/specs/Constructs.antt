@@ -1,5 +1,5 @@
 -- What begins a text, what it gives, and what follows it (XML 1.0, sections 2.4 to 2.7; HTML 4.01, section 3.2 and appendix B).
-use Rattle.std.specs.Prelude.{ℕ, ◌==◌, Bool, true, false, ◌&&◌, ◌||◌, if◌then◌else◌, List, [], ◌∷◌, length, drop, Option, None, Some, codes}
+use Rattle.std.specs.Prelude.{ℕ, ◌==◌, Bool, false, ◌&&◌, ◌||◌, if◌then◌else◌, List, [], ◌∷◌, length, drop, Option, None, Some, codes}
 use Rattle.std.specs.Char.{to_ascii_lowercase}
 use Rattle.pur_entities.specs.References.{decoded}
 use Rattle.pur_tokens.specs.Attributes.{is_same_text}

@@ -1,6 +1,6 @@
 -- The tokens of a text.
 use Rattle.std.specs.Prelude.{ℕ, zero, suc, ◌-◌, List, [], ◌∷◌, ◌++◌, length}
-use Rattle.pur_tokens.specs.Tokens.{PlainToken, text_token, start_token, end_token, empty_token, hidden_token, comment_token}
+use Rattle.pur_tokens.specs.Tokens.{PlainToken, text_token}
 use Rattle.pur_lexer.specs.Constructs.{construct_of}
 
 -- what the constructs give, one after another, in a text whose first n characters belong to one that was read already

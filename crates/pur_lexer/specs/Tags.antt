@@ -1,5 +1,5 @@
 -- The names and attributes of tags (XML 1.0, section 3.1, read as leniently as HTML 4.01, appendix B, asks for).
-use Rattle.std.specs.Prelude.{ℕ, zero, suc, ◌-◌, ◌==◌, Bool, not, ◌&&◌, ◌||◌, if◌then◌else◌, List, [], ◌∷◌, ◌++◌, map, length, drop, Option, None, Some, option_map}
+use Rattle.std.specs.Prelude.{ℕ, zero, suc, ◌-◌, ◌==◌, Bool, not, ◌||◌, if◌then◌else◌, List, [], ◌∷◌, ◌++◌, map, length, drop, Option, None, Some, option_map}
 use Rattle.std.specs.Char.{to_ascii_lowercase}
 use Rattle.pur_text.specs.Characters.{is_between, is_space}
 use Rattle.pur_entities.specs.References.{decoded}

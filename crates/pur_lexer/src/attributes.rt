@@ -14,7 +14,10 @@ use std::alloc::{AllocError, Global};
 
 /// The attributes of a tag, whether it is an empty tag, and the text behind it, from the text behind its name; None where the text
 /// ends before the tag.
-pub(crate) fn cut_tag_end(alloc: Global, text: &str) -> Result<Option<(AttrList, bool, &str)>, AllocError>
+pub(crate) fn cut_tag_end(
+    alloc: Global,
+    text: &str,
+) -> Result<Option<(AttrList, bool, &str)>, AllocError>
     ensures text { IfOk result (λ end. IfSome end (λ end. IsUtf8 end.2.now)) }
     ensures shorter { IfOk result (λ end. IfSome end (λ end. length end.2.now ≤ length text.now)) }
     ensures end { IfOk result (λ end. option_map (λ end. tag_end_with end.0 end.1 (chars end.2.now)) end ≡ tag_end (chars text.now)) }
@@ -32,7 +35,11 @@ pub(crate) fn cut_tag_end(alloc: Global, text: &str) -> Result<Option<(AttrList,
 }
 
 // Puts the attribute that begins this text behind the others, if its name is new, and gives the text behind it.
-fn push_attribute<'a>(alloc: Global, attrs: &mut AttrList, text: &'a str) -> Result<&'a str, AllocError>
+fn push_attribute<'a>(
+    alloc: Global,
+    attrs: &mut AttrList,
+    text: &'a str,
+) -> Result<&'a str, AllocError>
     ensures text { IfOk result (λ rest. IsUtf8 rest.now) }
     ensures shorter { IfOk result (λ rest. length rest.now ≤ length text.now - 1) }
     ensures attrs { OnOk result (attrs.new ≡ with_all_new attrs.old (attribute_at (chars text.now)).pairs) }
@@ -49,7 +56,12 @@ fn push_attribute<'a>(alloc: Global, attrs: &mut AttrList, text: &'a str) -> Res
 }
 
 // Puts the attribute of this name behind the others, by what follows the name and the white space behind it.
-fn push_named<'a>(alloc: Global, attrs: &mut AttrList, name: String, text: &'a str) -> Result<&'a str, AllocError>
+fn push_named<'a>(
+    alloc: Global,
+    attrs: &mut AttrList,
+    name: String,
+    text: &'a str,
+) -> Result<&'a str, AllocError>
     ensures text { IfOk result (λ rest. IsUtf8 rest.now) }
     ensures shorter { IfOk result (λ rest. length rest.now ≤ length text.now) }
     ensures attrs { OnOk result (attrs.new ≡ with_all_new attrs.old (attribute_behind (text_of name) (chars text.now)).pairs) }

@@ -17,7 +17,10 @@ use pur_tokens::{Tag, Token};
 use std::alloc::{AllocError, Global};
 
 /// The token of the construct that a `<` begins before this text, if it has one, and the text behind it.
-pub(crate) fn cut_markup<'a>(alloc: Global, text: &'a str) -> Result<(Option<Token>, &'a str), AllocError>
+pub(crate) fn cut_markup<'a>(
+    alloc: Global,
+    text: &'a str,
+) -> Result<(Option<Token>, &'a str), AllocError>
     ensures text { IfOk result (λ cut. IsUtf8 cut.1.now) }
     ensures shorter { IfOk result (λ cut. length cut.1.now ≤ length text.now) }
     ensures construct { IfOk result (λ cut. construct_with (option_map plain_token cut.0) (chars cut.1.now) ≡ markup_of (chars text.now)) }
@@ -106,7 +109,11 @@ fn cut_through_mark<'a>(text: &'a str, mark: &str) -> Option<(&'a str, &'a str)>
 }
 
 // A comment through the next of these marks.
-fn cut_comment<'a>(alloc: Global, text: &'a str, mark: &str) -> Result<(Option<Token>, &'a str), AllocError>
+fn cut_comment<'a>(
+    alloc: Global,
+    text: &'a str,
+    mark: &str,
+) -> Result<(Option<Token>, &'a str), AllocError>
     requires { IsMark mark.now }
     ensures text { IfOk result (λ cut. IsUtf8 cut.1.now) }
     ensures shorter { IfOk result (λ cut. length cut.1.now ≤ length text.now) }
@@ -122,7 +129,10 @@ fn cut_comment<'a>(alloc: Global, text: &'a str, mark: &str) -> Result<(Option<T
 }
 
 // Text in which `&` is text, through the next `]]>`.
-fn cut_character_data<'a>(alloc: Global, text: &'a str) -> Result<(Option<Token>, &'a str), AllocError>
+fn cut_character_data<'a>(
+    alloc: Global,
+    text: &'a str,
+) -> Result<(Option<Token>, &'a str), AllocError>
     ensures text { IfOk result (λ cut. IsUtf8 cut.1.now) }
     ensures shorter { IfOk result (λ cut. length cut.1.now ≤ length text.now) }
     ensures construct { IfOk result (λ cut. construct_with (option_map plain_token cut.0) (chars cut.1.now) ≡ through_mark (codes "]]>") text_token (chars text.now)) }
@@ -183,7 +193,11 @@ fn is_hiding(name: &str) -> bool
 }
 
 // Hidden content with this name, from behind its start tag.
-fn cut_hidden<'a>(alloc: Global, name: String, text: &'a str) -> Result<(Option<Token>, &'a str), AllocError>
+fn cut_hidden<'a>(
+    alloc: Global,
+    name: String,
+    text: &'a str,
+) -> Result<(Option<Token>, &'a str), AllocError>
     requires { IsTrue (is_hiding (text_of name)) }
     ensures text { IfOk result (λ cut. IsUtf8 cut.1.now) }
     ensures shorter { IfOk result (λ cut. length cut.1.now ≤ length text.now) }

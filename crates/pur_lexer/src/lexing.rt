@@ -48,7 +48,12 @@ fn push_plain_text(alloc: Global, run: &mut String, text: &str) -> Result<(), Al
 }
 
 // Puts the token of a construct, if it has one, behind the others and a run of text.
-fn push_if_some(alloc: Global, tokens: &mut Vec<Token>, run: &mut String, token: Option<Token>) -> Result<(), AllocError>
+fn push_if_some(
+    alloc: Global,
+    tokens: &mut Vec<Token>,
+    run: &mut String,
+    token: Option<Token>,
+) -> Result<(), AllocError>
     ensures { OnOk result ((more : List PlainToken) → read_on (map plain_token tokens.new.items) (text_of run.new) more
         ≡ read_on (map plain_token tokens.old.items) (text_of run.old) (tokens_given token ++ more)) }
 {
@@ -62,7 +67,12 @@ fn push_if_some(alloc: Global, tokens: &mut Vec<Token>, run: &mut String, token:
 }
 
 // Puts a token behind the others and a run of text, which a text joins.
-fn push_token(alloc: Global, tokens: &mut Vec<Token>, run: &mut String, token: Token) -> Result<(), AllocError>
+fn push_token(
+    alloc: Global,
+    tokens: &mut Vec<Token>,
+    run: &mut String,
+    token: Token,
+) -> Result<(), AllocError>
     ensures { OnOk result ((more : List PlainToken) → read_on (map plain_token tokens.new.items) (text_of run.new) more
         ≡ read_on (map plain_token tokens.old.items) (text_of run.old) (plain_token token ∷ more)) }
 {
@@ -95,7 +105,12 @@ fn push_token(alloc: Global, tokens: &mut Vec<Token>, run: &mut String, token: T
 }
 
 // Puts a run of text behind the tokens, and then this token, which is none; a new run begins.
-fn push_other(alloc: Global, tokens: &mut Vec<Token>, run: &mut String, token: Token) -> Result<(), AllocError>
+fn push_other(
+    alloc: Global,
+    tokens: &mut Vec<Token>,
+    run: &mut String,
+    token: Token,
+) -> Result<(), AllocError>
     ensures tokens { OnOk result (map plain_token tokens.new.items ≡ map plain_token tokens.old.items ++ text_alone (text_of run.old) ++ plain_token token ∷ []) }
     ensures run { OnOk result (text_of run.new ≡ []) }
 {

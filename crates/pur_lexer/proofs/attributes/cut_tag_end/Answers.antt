@@ -1,5 +1,5 @@
 -- The tag is read step by step.
-use Rattle.std.proofs.Common.{◌≡◌, ◌∙◌, ◌∷◌, sym, ap, true≢false, None, Some, lit<, arith}
+use Rattle.std.proofs.Common.{◌∙◌, sym, ap, true≢false, None, Some, lit<, arith}
 use Rattle.std.specs.Prelude.{◌==◌}
 use Rattle.std.specs.Str.{chars}
 use Rattle.std.proofs.lemmas.Bool.{eqb-true}

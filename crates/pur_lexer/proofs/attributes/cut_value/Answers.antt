@@ -1,5 +1,5 @@
 -- A quote begins the value, or none does.
-use Rattle.std.proofs.Common.{◌≡◌, ◌∙◌, ◌∷◌, sym, ap, Some, None, lit<}
+use Rattle.std.proofs.Common.{◌≡◌, ◌∙◌, sym, ap, Some, None, lit<}
 use Rattle.std.specs.Str.{chars}
 use Rattle.std.proofs.lemmas.Str.Pattern.{strip_prefix_char}
 use Rattle.pur_lexer.specs.Tags.{RawValue, raw_value, quoted_value, bare_value}

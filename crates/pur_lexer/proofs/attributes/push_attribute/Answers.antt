@@ -4,9 +4,9 @@ use Rattle.std.specs.Prelude.{◌==◌}
 use Rattle.std.specs.Str.{chars}
 use Rattle.std.proofs.lemmas.Bool.{eqb-true}
 use Rattle.pur_tokens.specs.Texts.{text_of}
-use Rattle.pur_lexer.specs.Tags.{ReadAttributes, attribute_at, attribute_behind, lowered}
+use Rattle.pur_lexer.specs.Tags.{ReadAttributes}
 use Rattle.pur_lexer.specs.Readings.{with_all_new}
-use Rattle.pur_lexer.proofs.TagLemmas.{attribute_at-none, attribute_at-named, none_new, lowered-chars, named_here}
+use Rattle.pur_lexer.proofs.TagLemmas.{attribute_at-none, none_new, named_here}
 use Rattle.pur_lexer.proofs.attributes.push_attribute.Goals as goal
 
 pub returns-then-is_empty-clause-attrs : goal.returns-then-is_empty-clause-attrs

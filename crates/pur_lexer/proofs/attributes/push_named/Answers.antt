@@ -1,11 +1,11 @@
 -- The value stands behind a `=`, or is the name.
-use Rattle.std.proofs.Common.{◌≡◌, ◌∙◌, ◌∷◌, [], sym, ap, Some, None, lit<, string_bytes}
+use Rattle.std.proofs.Common.{◌≡◌, ◌∙◌, sym, ap, Some, None, lit<}
 use Rattle.std.specs.Str.{chars}
 use Rattle.std.proofs.lemmas.Str.Pattern.{strip_prefix_char}
 use Rattle.pur_tokens.specs.Texts.{text_of}
 use Rattle.pur_tokens.specs.Attributes.{with_new}
 use Rattle.pur_entities.specs.References.{decoded}
-use Rattle.pur_lexer.specs.Tags.{RawValue, ReadAttributes, raw_value, with_raw_value, attribute_behind}
+use Rattle.pur_lexer.specs.Tags.{ReadAttributes, raw_value, with_raw_value, attribute_behind}
 use Rattle.pur_lexer.specs.Readings.{with_all_new}
 use Rattle.pur_lexer.proofs.TagLemmas.{chars_behind, not_behind, attribute_behind-value, attribute_behind-none, one_new}
 use Rattle.pur_lexer.proofs.attributes.push_named.Goals as goal

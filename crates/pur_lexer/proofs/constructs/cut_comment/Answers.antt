@@ -1,13 +1,7 @@
-use Rattle.std.proofs.Common.{◌≡◌, ◌∙◌, ◌∷◌, ◌++◌, [], sym, ap, Some, None, lit<, codes, refl, true, false, string_bytes, length, drop, arith}
+use Rattle.std.proofs.Common.{◌∙◌, [], ap, refl}
 use Rattle.std.specs.Str.{chars}
-use Rattle.std.proofs.lemmas.Str.{chars-nil, IsUtf8-string_bytes}
-use Rattle.std.proofs.lemmas.Str.Pattern.{strip_prefix_char}
 use Rattle.pur_tokens.specs.Texts.{text_of}
-use Rattle.pur_tokens.specs.Tokens.{comment_token, text_token}
-use Rattle.pur_entities.proofs.CutLemmas.{if_none}
-use Rattle.pur_lexer.specs.Constructs.{end_tag_of, gives_one}
-use Rattle.pur_lexer.proofs.CutLemmas.{prefix_parts, chars_past}
-use Rattle.pur_lexer.proofs.TagLemmas.{chars_behind, not_behind, lowered-chars}
+use Rattle.pur_tokens.specs.Tokens.{comment_token}
 use Rattle.pur_lexer.proofs.ConstructLemmas.{through-found, through-missed, nothing_left}
 use Rattle.pur_lexer.proofs.constructs.cut_comment.Goals as goal
 

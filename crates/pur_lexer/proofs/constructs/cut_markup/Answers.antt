@@ -1,13 +1,8 @@
 -- The first row that applies.
-use Rattle.std.proofs.Common.{◌≡◌, ◌∙◌, ◌∷◌, ◌++◌, [], sym, ap, Some, None, lit<, codes, refl, true, false, string_bytes, length, drop, arith, option_map}
+use Rattle.std.proofs.Common.{◌∙◌, sym, ap, Some, None, lit<, codes, refl}
 use Rattle.std.specs.Str.{chars}
 use Rattle.std.proofs.lemmas.Str.Pattern.{strip_prefix_char}
-use Rattle.pur_tokens.specs.Texts.{text_of}
-use Rattle.pur_tokens.specs.Tokens.{text_token}
-use Rattle.pur_entities.proofs.CutLemmas.{chars_ascii}
-use Rattle.pur_lexer.specs.Tags.{tag_end}
-use Rattle.pur_lexer.specs.Constructs.{gives_one, markup_of}
-use Rattle.pur_lexer.specs.Readings.{tag_end_with}
+use Rattle.pur_lexer.specs.Constructs.{markup_of}
 use Rattle.pur_lexer.proofs.CutLemmas.{prefix_parts, chars_past, begins_not}
 use Rattle.pur_lexer.proofs.TagLemmas.{chars_behind, not_behind}
 use Rattle.pur_lexer.proofs.ConstructLemmas.{markup-comment, markup-data, markup-declaration, markup-instruction, markup-tag}

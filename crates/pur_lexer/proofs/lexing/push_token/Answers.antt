@@ -1,5 +1,5 @@
 -- A text joins the run, and any other token ends it.
-use Rattle.std.proofs.Common.{◌∷◌, ◌++◌, [], map, ap, sym, ◌∙◌, string_bytes}
+use Rattle.std.proofs.Common.{◌∷◌, ◌++◌, map, ap, sym, ◌∙◌, string_bytes}
 use Rattle.std.specs.Str.{chars}
 use Rattle.std.proofs.lemmas.Str.{chars-append, IsUtf8-string_bytes}
 use Rattle.pur_tokens.specs.Texts.{text_of}

@@ -1,9 +1,9 @@
 -- The marks that are read stand before those of the rest.
-use Rattle.std.proofs.Common.{◌≡◌, ◌++◌, map, ap, ◌∙◌}
+use Rattle.std.proofs.Common.{◌++◌, map}
 use Rattle.std.specs.Str.{chars}
 use Rattle.pur_entities.specs.References.{decoded}
 use Rattle.pur_lexer.specs.Marks.{plain_mark, marks_of, marks_of_text}
-use Rattle.pur_lexer.proofs.CutLemmas.{with_marks_before, none_read, run_read, tag_read, all_read, not_built_here}
+use Rattle.pur_lexer.proofs.CutLemmas.{none_read, run_read, tag_read, all_read, not_built_here}
 use Rattle.pur_lexer.proofs.marks.read_marks.Goals as goal
 
 pub reading-init : goal.reading-init
