@@ -1,0 +1,31 @@
+-- Both parts are what the test cuts.
+use Rattle.std.proofs.Common.{◌∙◌, ap, subst}
+use Rattle.std.specs.Str.{chars}
+use Rattle.pur_lexer.specs.Cutting.{IsFirstPlace}
+use Rattle.pur_lexer.specs.Places.{begins_with_mark}
+use Rattle.pur_lexer.proofs.PlaceLemmas.{cut_there, mark_is_plain}
+use Rattle.pur_lexer.proofs.places.cut_at_mark.Goals as goal
+
+pub split_at-requires : goal.split_at-requires
+split_at-requires c =
+    let text = c.args.text.now in
+    let n = c.place_of_mark-place.result in
+    let told : IsFirstPlace (begins_with_mark c.as_bytes-2.result.now) text n = subst (λ t. IsFirstPlace (begins_with_mark c.as_bytes-2.result.now) t n) c.as_bytes.ensures.value c.place_of_mark-place.ensures in
+    let first : IsFirstPlace (begins_with_mark c.args.mark.now) text n = subst (λ m. IsFirstPlace (begins_with_mark m) text n) c.as_bytes-2.ensures.value told in
+    (cut_there (begins_with_mark c.args.mark.now) text n (mark_is_plain c.args.mark.now c.requires) c.utf8.text first).boundary
+
+pub returns-clause-run : goal.returns-clause-run
+returns-clause-run c =
+    let text = c.args.text.now in
+    let n = c.place_of_mark-place.result in
+    let told : IsFirstPlace (begins_with_mark c.as_bytes-2.result.now) text n = subst (λ t. IsFirstPlace (begins_with_mark c.as_bytes-2.result.now) t n) c.as_bytes.ensures.value c.place_of_mark-place.ensures in
+    let first : IsFirstPlace (begins_with_mark c.args.mark.now) text n = subst (λ m. IsFirstPlace (begins_with_mark m) text n) c.as_bytes-2.ensures.value told in
+    ap chars c.split_at.ensures.front ∙ (cut_there (begins_with_mark c.args.mark.now) text n (mark_is_plain c.args.mark.now c.requires) c.utf8.text first).run
+
+pub returns-clause-rest : goal.returns-clause-rest
+returns-clause-rest c =
+    let text = c.args.text.now in
+    let n = c.place_of_mark-place.result in
+    let told : IsFirstPlace (begins_with_mark c.as_bytes-2.result.now) text n = subst (λ t. IsFirstPlace (begins_with_mark c.as_bytes-2.result.now) t n) c.as_bytes.ensures.value c.place_of_mark-place.ensures in
+    let first : IsFirstPlace (begins_with_mark c.args.mark.now) text n = subst (λ m. IsFirstPlace (begins_with_mark m) text n) c.as_bytes-2.ensures.value told in
+    ap chars c.split_at.ensures.back ∙ (cut_there (begins_with_mark c.args.mark.now) text n (mark_is_plain c.args.mark.now c.requires) c.utf8.text first).rest

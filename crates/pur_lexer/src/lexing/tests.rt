@@ -1,0 +1,278 @@
+//! Texts and the tokens that they are read as, and long texts that are read in one go.
+use super::*;
+use pur_tokens::Tag;
+use std::test::Fail;
+
+// The tokens in order: a text in quotes, a tag in brackets, hidden content in braces, a comment in parentheses.
+fn shown(alloc: Global, tokens: &[Token]) -> Result<String, AllocError> {
+    let mut out = String::new(alloc);
+    for token in tokens {
+        match token {
+            Token::Text(text) => push_all(&mut out, ["'", text.as_str(), "'"])?,
+            Token::Start(tag) => push_tag(&mut out, tag, "]")?,
+            Token::End(name) => push_all(&mut out, ["[/", name.as_str(), "]"])?,
+            Token::Empty(tag) => push_tag(&mut out, tag, "/]")?,
+            Token::Hidden { name, body } => {
+                push_all(&mut out, ["{", name.as_str(), ":"])?;
+                push_all(&mut out, [body.as_str(), "}", ""])?;
+            }
+            Token::Comment(text) => push_all(&mut out, ["(", text.as_str(), ")"])?,
+        }
+    }
+    Ok(out)
+}
+
+fn push_all(out: &mut String, parts: [&str; 3]) -> Result<(), AllocError> {
+    for part in parts {
+        out.push_str(part)?;
+    }
+    Ok(())
+}
+
+fn push_tag(out: &mut String, tag: &Tag, end: &str) -> Result<(), AllocError> {
+    push_all(out, ["[", tag.name.as_str(), ""])?;
+    for at in 0..tag.attrs.len() {
+        push_all(out, [" ", tag.attrs.name_at(at), "="])?;
+        push_all(out, ["|", tag.attrs.value_at(at), "|"])?;
+    }
+    out.push_str(end)
+}
+
+fn reading_of(alloc: Global, text: &str) -> Result<String, AllocError> {
+    let tokens = lex(alloc, text)?;
+    shown(alloc, tokens.as_slice())
+}
+
+#[test]
+fn reads_constructs(rt: HostRuntime) -> Result<(), Fail> {
+    let rows = [
+        ("nothing", "", ""),
+        (
+            "a text with references",
+            "a &copy; &nope; > &#x41;",
+            "'a \u{A9} &nope; > A'",
+        ),
+        ("a reference that gives nothing", "&#13;", ""),
+        ("a comment", "a<!--b-->c", "'a'(b)'c'"),
+        ("a comment of no characters", "<!---->", "()"),
+        (
+            "the end mark stands after four characters",
+            "<!-->x-->y",
+            "(>x)'y'",
+        ),
+        (
+            "two dashes don't end a comment",
+            "<!--a--b>c-->",
+            "(a--b>c)",
+        ),
+        ("a comment without end takes all", "x<!-- <p>y", "'x'"),
+        (
+            "character data joins the texts around",
+            "a<![CDATA[<&amp;]]>b",
+            "'a<&amp;b'",
+        ),
+        ("character data of no characters", "<![CDATA[]]>", ""),
+        (
+            "character data without end takes all",
+            "a<![CDATA[b]]c>d",
+            "'a'",
+        ),
+        (
+            "character data in lower case is a declaration",
+            "<![cdata[a>b]]>",
+            "([cdata[a)'b]]>'",
+        ),
+        ("a declaration", "<!DOCTYPE html>a", "(DOCTYPE html)'a'"),
+        (
+            "a processing instruction",
+            "<?xml a='>'?>b",
+            "(xml a=')''?>b'",
+        ),
+        ("a declaration without end takes all", "a<!b", "'a'"),
+        ("an end tag with more in it", "a</P x='>'>b", "'a'[/p]''>b'"),
+        ("an end tag in capitals", "</DIV/>", "[/div]"),
+        ("an end tag without end takes all", "a</p", "'a'"),
+        ("no letter behind `</`", "</1>", "'</1>'"),
+        ("a `<` before a space", "1 < 2", "'1 < 2'"),
+        ("a `<` before a tag", "<<p>", "'<'[p]"),
+        (
+            "a reference ends where the text does",
+            "&am<p>p;",
+            "'&am'[p]'p;'",
+        ),
+        ("a reference isn't joined over a `<`", "&l<t;", "'&l'"),
+        ("a `<` at the end", "a<", "'a<'"),
+    ];
+    for (row, text, want) in rows {
+        assert_eq!(rt; reading_of(rt.alloc(), text)?.as_str(), want, "{row}");
+    }
+    Ok(())
+}
+
+#[test]
+fn reads_tags(rt: HostRuntime) -> Result<(), Fail> {
+    let rows = [
+        (
+            "a start tag in capitals",
+            "<P CLASS=a class=b>x",
+            "[p class=|a|]'x'",
+        ),
+        ("an empty tag", "<br/>", "[br/]"),
+        ("an empty tag with a space", "<br />", "[br/]"),
+        ("a `/` and then a space", "<br / >", "[br]"),
+        ("a `/` in a value", "<a b=c/>", "[a b=|c/|]"),
+        ("a `/` behind a value in quotes", "<a b='c'/>", "[a b=|c|/]"),
+        ("a `/` between attributes", "<a/b/c=d>", "[a b=|b| c=|d|]"),
+        ("a letter past ASCII", "<p\u{E9}\u{C9}>", "[p\u{E9}\u{C9}]"),
+        (
+            "an attribute without a value",
+            "<a HREF&amp; b>",
+            "[a href&amp;=|href&amp;| b=|b|]",
+        ),
+        ("white space around a `=`", "<a b \t=\n 'c'>", "[a b=|c|]"),
+        ("white space before a value", "<a b= c=''>", "[a b=|c=''|]"),
+        ("an empty value before the end", "<a b=>", "[a b=||]"),
+        (
+            "a value in double quotes",
+            "<a b=\"'>&lt;\">",
+            "[a b=|'><|]",
+        ),
+        (
+            "a value with quotes and `=`",
+            "<a b=c\"d=e<f>",
+            "[a b=|c\"d=e<f|]",
+        ),
+        ("no name before a `=`", "<a =b c>", "[a b=|b| c=|c|]"),
+        (
+            "quotes and a `<` between attributes",
+            "<a \"b'c<d>",
+            "[a b=|b| c=|c| d=|d|]",
+        ),
+        (
+            "values without a space between",
+            "<a b='c'd=\"e\">",
+            "[a b=|c| d=|e|]",
+        ),
+        (
+            "the first of equal names",
+            "<a b=1 B=2 c=3 b>",
+            "[a b=|1| c=|3|]",
+        ),
+        ("a name that runs into the next", "<b<i>", "[b<i]"),
+        ("a tag without end takes all", "a <b c", "'a '"),
+        ("a value without end takes all", "a<b c='>x", "'a'"),
+    ];
+    for (row, text, want) in rows {
+        assert_eq!(rt; reading_of(rt.alloc(), text)?.as_str(), want, "{row}");
+    }
+    Ok(())
+}
+
+#[test]
+fn reads_hidden_content(rt: HostRuntime) -> Result<(), Fail> {
+    let rows = [
+        (
+            "a script",
+            "a<script>if(1<2)</script>b",
+            "'a'{script:if(1<2)}'b'",
+        ),
+        (
+            "references aren't read",
+            "<style a=b>&lt;<!--</style>",
+            "{style:&lt;<!--}",
+        ),
+        (
+            "another case and more behind the name",
+            "<SCRIPT>a</Script x='>'>b",
+            "{script:a}''>b'",
+        ),
+        (
+            "a `/` behind the name",
+            "<script>a</script/>b",
+            "{script:a}'b'",
+        ),
+        (
+            "another name",
+            "<script>a</style></scripts></script >b",
+            "{script:a</style></scripts>}'b'",
+        ),
+        ("no end mark", "<script>a</scrip>", "{script:a</scrip>}"),
+        (
+            "the name ends the text",
+            "<script>a</script",
+            "{script:a</script}",
+        ),
+        (
+            "only the `>` is missing",
+            "<script>a</script ",
+            "{script:a}",
+        ),
+        (
+            "a tag in the end mark",
+            "<script>a</script <b>c",
+            "{script:a}'c'",
+        ),
+        ("an empty tag hides nothing", "<script/>a", "[script/]'a'"),
+        ("an end tag hides nothing", "</style>a", "[/style]'a'"),
+        ("the start tag has no end", "<script a", ""),
+        ("no body", "<style></style>", "{style:}"),
+    ];
+    for (row, text, want) in rows {
+        assert_eq!(rt; reading_of(rt.alloc(), text)?.as_str(), want, "{row}");
+    }
+    Ok(())
+}
+
+// A piece of a text, so many times.
+fn repeated(alloc: Global, piece: &str, count: usize) -> Result<String, AllocError> {
+    let mut text = String::new(alloc);
+    for _ in 0..count {
+        text.push_str(piece)?;
+    }
+    Ok(text)
+}
+
+#[test]
+fn takes_time_in_proportion_to_the_text(rt: HostRuntime) -> Result<(), Fail> {
+    let rows: [(&str, &str, &str, usize, &str, usize); 9] = [
+        ("comments in a comment", "", "<!--", 4_000, "", 0),
+        ("nothing but `<`", "", "<", 8_000, "", 1),
+        ("a long value", "<a b='", "x", 20_000, "'>", 1),
+        ("scripts in a script", "", "<script", 3_000, "", 0),
+        (
+            "end marks in a script",
+            "<script>",
+            "</script",
+            2_500,
+            "",
+            1,
+        ),
+        ("values without end", "", "<a b=", 3_000, "", 0),
+        ("tags in a tag", "", "<a b= ", 3_000, ">", 1),
+        ("quotes in a tag", "<a ", "\"", 8_000, ">", 1),
+        ("quoted values without end", "<a ", "b=\"", 6_000, ">", 0),
+    ];
+    for (row, front, piece, count, end, want) in rows {
+        let mut text = repeated(rt.alloc(), front, 1)?;
+        text.push_str(repeated(rt.alloc(), piece, count)?.as_str())?;
+        text.push_str(end)?;
+        assert_eq!(rt; lex(rt.alloc(), text.as_str())?.len(), want, "{row}");
+    }
+    Ok(())
+}
+
+#[test]
+fn reads_many_distinct_names(rt: HostRuntime) -> Result<(), Fail> {
+    let mut text = String::from_str(rt.alloc(), "<a")?;
+    for number in 0..2_000u32 {
+        text.push_str(format!(in rt.alloc(); " {number}")?.as_str())?;
+    }
+    text.push('>')?;
+    let tokens = lex(rt.alloc(), text.as_str())?;
+    assert_eq!(rt; tokens.len(), 1);
+    match &tokens[0] {
+        Token::Start(tag) => assert_eq!(rt; tag.attrs.len(), 2_000),
+        _ => assert!(rt; false, "a start tag"),
+    }
+    Ok(())
+}
