@@ -79,7 +79,6 @@ pub one-more : (e : Element) (set : List Element) (rest : Answer (List Element))
 one-more e set (Ok more) = ap Ok (with-more e set more)
 one-more e set (Err fault) = refl
 
-
 -- a set in order stays so
 pub in_order-twice : (xs : List Element) → in_order (in_order xs) ≡ in_order xs
 unfolding in_order

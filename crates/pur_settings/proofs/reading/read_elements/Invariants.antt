@@ -8,5 +8,5 @@ abbrev pub invariant-loop-item : goal.invariant-loop-item
 invariant-loop-item l = record {
   settled : in_order l.elements ≡ l.elements;
   whole : answer_map (λ more. in_order (l.elements ++ more)) (texts_in (element_of l.doctype) (items_view (drop l.item-index l.item-items)))
-    ≡ answer_map in_order (list_in (element_of l.fn.doctype) (view l.fn.value));
+      ≡ answer_map in_order (list_in (element_of l.fn.doctype) (view l.fn.value));
 }
