@@ -1,0 +1,32 @@
+use Rattle.std.proofs.Common.{◌∙◌, ◌≡◌, sym, ap, Ok, drop, arith, ◌+◌, ◌∷◌, ◌++◌}
+use Rattle.std.proofs.lemmas.List.{drop_more}
+use Rattle.toml.specs.View.{view, items_view}
+use Rattle.pur_settings.specs.Reading.{answer_map, texts_in, element_of}
+use Rattle.pur_settings.specs.Sets.{in_order}
+use Rattle.pur_settings.proofs.ReadingLemmas.{list-begun, list-past}
+use Rattle.pur_settings.proofs.SetLemmas.{in_order-none, in_order-twice}
+use Rattle.pur_settings.proofs.reading.read_elements.Goals as goal
+
+pub loop-item-init : goal.loop-item-init
+loop-item-init c = record {
+  settled = rw c.new-elements.ensures in_order-none;
+  whole =
+      list-begun (element_of c.args.doctype) (view c.args.value.now) (items_view c.deref-item-items.result.now) c.new-elements.result
+      c.new-elements.ensures
+      (sym (c.in_ok-read_items.ensures) ∙ ap (λ items. Ok (items_view items)) (sym c.deref-item-items.ensures.value));
+}
+
+pub loop-item-preserved : goal.loop-item-preserved
+loop-item-preserved c =
+    let next : c.item-item.result ∷ drop (c.loop-item.item-index + 1) c.deref-item-items.result.now ≡ drop c.loop-item.item-index c.deref-item-items.result.now
+    = ap (λ x. x ∷ drop (c.loop-item.item-index + 1) c.deref-item-items.result.now) c.item-item.is
+    ∙ sym (drop_more c.deref-item-items.result.now c.loop-item.item-index _ (grind arith)) in
+    record {
+      settled = rw c.insert.ensures (in_order-twice (c.in_ok-element.element ∷ c.loop-item.elements));
+      whole =
+          list-past (element_of c.args.doctype) (view c.item-item.result) (items_view (drop (c.loop-item.item-index + 1) c.deref-item-items.result.now))
+          c.in_ok-element.element c.loop-item.elements c.insert.new.self
+          (sym (c.in_ok-element.ensures)) c.insert.ensures
+          ∙ ap (λ values. answer_map (λ more. in_order (c.loop-item.elements ++ more)) (texts_in (element_of c.args.doctype) (items_view values))) next
+          ∙ c.loop-item.invariant.whole;
+    }

@@ -1,0 +1,12 @@
+use Rattle.std.proofs.Common.{◌∙◌, sym, rules}
+use Rattle.toml.specs.View.{table_view}
+use Rattle.pur_settings.proofs.ReadingLemmas.{settings_of-document, settings_of-none}
+use Rattle.pur_settings.proofs.site_settings.Settings.read.Goals as goal
+
+pub returns-in-Ok : goal.returns-in-Ok
+returns-in-Ok c _ =
+    c.read_table.ensures ∙
+    sym (settings_of-document c.args.text.now (table_view c.in-Ok.table) c.in-Ok.ensures.ok.0 c.in-Ok.ensures.ok.1)
+
+pub returns-else-is_memory : goal.returns-else-is_memory
+returns-else-is_memory c _ = sym (settings_of-none c.args.text.now (λ utf8. c.in-Err.ensures.refused (search rules) utf8))

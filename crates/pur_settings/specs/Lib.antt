@@ -1,0 +1,4 @@
+pub mod Keys
+pub mod Sets
+pub mod Rules
+pub mod Reading

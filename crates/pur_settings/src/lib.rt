@@ -1,0 +1,16 @@
+//! What a site configures: the settings, read from a TOML text or left at their defaults. Reading tells the first
+//! offence of a text in the order of its keys' bytes, and each getter answers what the text says. Whether an element is
+//! permitted is looked up in a table, so it costs the same however long the text's list is.
+
+#![tactic(auto)]
+
+mod element_table;
+mod faults;
+mod keys;
+mod reading;
+mod site_settings;
+#[cfg(test)]
+mod tests;
+
+pub use faults::SettingsFault;
+pub use site_settings::Settings;
