@@ -250,7 +250,7 @@ fn takes_time_in_proportion_to_the_text(rt: HostRuntime) -> Result<(), Fail> {
         ("values without end", "", "<a b=", 3_000, "", 0),
         ("tags in a tag", "", "<a b= ", 3_000, ">", 1),
         ("quotes in a tag", "<a ", "\"", 8_000, ">", 1),
-        ("quoted values without end", "<a ", "b=\"", 6_000, ">", 0),
+        ("a quoted value without end", "<a ", "b=\"", 6_001, ">", 0),
     ];
     for (row, front, piece, count, end, want) in rows {
         let mut text = repeated(rt.alloc(), front, 1)?;
