@@ -23,14 +23,14 @@ pub record Rules : Type 0 where
 abbrev pub default_rules : Rules
 default_rules = record { doctype = Transitional; elements = None }
 
--- the listed elements, or, without a list, those of the doctype
-abbrev pub listed_elements : Doctype → Option (List Element) → List Element
-listed_elements doctype None = elements_of doctype
-listed_elements doctype (Some elements) = elements
+-- whether an element is listed; without a list all are
+abbrev pub is_listed : Option (List Element) → Element → Bool
+is_listed None element = true
+is_listed (Some elements) element = is_among elements element
 
--- whether an element may stand in what the filter writes
+-- whether an element may stand in what the filter writes: the doctype has it, and it is listed
 abbrev pub permits_element : Rules → Element → Bool
-permits_element rules element = is_among (listed_elements rules.doctype rules.elements) element
+permits_element rules element = is_among (elements_of rules.doctype) element && is_listed rules.elements element
 
 -- whether elements may have an `id`
 abbrev pub has_ids : Rules → Bool

@@ -63,14 +63,15 @@ impl Settings {
         }
     }
 
-    /// Whether the element may stand in what the filter writes.
+    /// Whether the element may stand in what the filter writes: the doctype has it, and the text's list, if there is one.
     pub fn permits(&self, element: Element) -> bool
         ensures { result ≡ permits_element self.now element }
     {
-        match &self.elements {
+        let listed = match &self.elements {
             Some(elements) => elements.contains(element),
-            None => declares(self.doctype, element),
-        }
+            None => true,
+        };
+        declares(self.doctype, element) && listed
     }
 
     /// The document type that the output follows.
