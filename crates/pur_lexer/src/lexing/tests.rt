@@ -102,6 +102,22 @@ fn reads_constructs(rt: HostRuntime) -> Result<(), Fail> {
         ),
         ("a reference isn't joined over a `<`", "&l<t;", "'&l'"),
         ("a `<` at the end", "a<", "'a<'"),
+        (
+            "signs that begin nothing",
+            "1 < 2 & 3 > 2 &copy; &nope;",
+            "'1 < 2 & 3 > 2 \u{A9} &nope;'",
+        ),
+        (
+            "a comment and character data",
+            "a<!--b-->c<![CDATA[<&amp;]]>d",
+            "'a'(b)'c<&amp;d'",
+        ),
+        (
+            "references by number",
+            "&#13;&#x41;&amp;lt;&#65",
+            "'A&lt;&#65'",
+        ),
+        ("a comment of nothing without end", "x<!--", "'x'"),
     ];
     for (row, text, want) in rows {
         assert_eq!(rt; reading_of(rt.alloc(), text)?.as_str(), want, "{row}");
@@ -159,7 +175,9 @@ fn reads_tags(rt: HostRuntime) -> Result<(), Fail> {
             "[a b=|1| c=|3|]",
         ),
         ("a name that runs into the next", "<b<i>", "[b<i]"),
+        ("an empty tag and a text", "<p/>x", "[p/]'x'"),
         ("a tag without end takes all", "a <b c", "'a '"),
+        ("a tag of a name alone without end", "a <b", "'a '"),
         ("a value without end takes all", "a<b c='>x", "'a'"),
     ];
     for (row, text, want) in rows {
