@@ -3,3 +3,4 @@ pub mod Cleaning
 pub mod Escapes
 pub mod Hosts
 pub mod Runs
+pub mod Trimming

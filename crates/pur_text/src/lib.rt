@@ -8,6 +8,7 @@ mod cleaning;
 mod hosts;
 mod laws;
 mod runs;
+mod trimming;
 
 pub use characters::{is_allowed, is_space, lower_ascii};
 pub use cleaning::clean;
@@ -15,3 +16,4 @@ pub use hosts::is_host;
 pub use laws::{
     allowed_is_cleaned, cleaned_is_allowed, cleaning_settles, host_is_lowered, host_is_plain,
 };
+pub use trimming::trim;
