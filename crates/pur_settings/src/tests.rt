@@ -3,6 +3,7 @@
 use crate::{Settings, SettingsFault};
 use pur_modules::{Content, Doctype};
 use pur_names::{Attr, Element, SchemeName, StyleProp};
+use std::test::Fail;
 
 // What a text gives: its fault, or the doctype and whether `p`, `font` and `br` are permitted.
 #[derive(Clone, Copy, PartialEq, Eq, Debug)]
@@ -70,6 +71,16 @@ fn texts_that_are_taken(rt: HostRuntime) {
 }
 
 #[test]
+fn spaces_of_the_greatest_length(rt: HostRuntime) -> Result<(), Fail> {
+    let spaces = vec![in rt.alloc(); b' '; 65_536]?;
+    assert_eq!(rt;
+        outcome_of(Settings::read(rt.alloc(), spaces.as_slice())),
+        Outcome::Rules(Doctype::Transitional, true, true, true)
+    );
+    Ok(())
+}
+
+#[test]
 fn texts_that_are_refused(rt: HostRuntime) {
     let rows = [
         ("=", SettingsFault::NotToml),
@@ -80,19 +91,8 @@ fn texts_that_are_refused(rt: HostRuntime) {
         ("Doctype = 'strict'", SettingsFault::UnknownKey),
         ("[site]", SettingsFault::UnknownKey),
         ("site.version = 1", SettingsFault::UnknownKey),
-        ("[doctype]", SettingsFault::WrongKind),
-        ("elements.p = true", SettingsFault::WrongKind),
-        ("[version]\nmajor = 1", SettingsFault::WrongKind),
-        ("doctype = 3", SettingsFault::WrongKind),
-        ("doctype = true", SettingsFault::WrongKind),
-        ("doctype = 2024-02-29", SettingsFault::WrongKind),
-        ("doctype = ['strict']", SettingsFault::WrongKind),
         ("doctype = \"html5\"", SettingsFault::UnknownName),
         ("doctype = 'Strict'", SettingsFault::UnknownName),
-        ("elements = 'p'", SettingsFault::WrongKind),
-        ("elements = 1.5", SettingsFault::WrongKind),
-        ("elements = [['p']]", SettingsFault::WrongKind),
-        ("elements = ['p', 1, 'blink']", SettingsFault::WrongKind),
         ("elements = ['blink', 1]", SettingsFault::UnknownName),
         ("elements = ['P']", SettingsFault::UnknownName),
         (
@@ -101,8 +101,6 @@ fn texts_that_are_refused(rt: HostRuntime) {
         ),
         ("version = 2", SettingsFault::UnknownName),
         ("version = -1", SettingsFault::UnknownName),
-        ("version = 1.0", SettingsFault::WrongKind),
-        ("version = '1'", SettingsFault::WrongKind),
         (
             "version = '1'\ndoctype = 'html5'",
             SettingsFault::UnknownName,
@@ -121,6 +119,42 @@ fn texts_that_are_refused(rt: HostRuntime) {
     }
     let invalid = Settings::read(rt.alloc(), b"doctype = '\xff'");
     assert_eq!(rt; outcome_of(invalid), Outcome::Fault(SettingsFault::NotToml));
+}
+
+#[test]
+fn values_of_the_wrong_kind(rt: HostRuntime) {
+    let rows = [
+        "doctype = 3",
+        "doctype = 1.5",
+        "doctype = true",
+        "doctype = 2024-02-29",
+        "doctype = ['strict']",
+        "[doctype]",
+        "elements = 'p'",
+        "elements = 3",
+        "elements = 1.5",
+        "elements = false",
+        "elements = 2024-02-29",
+        "elements = [['p']]",
+        "elements = ['p', 1, 'blink']",
+        "elements.p = true",
+        "[elements]",
+        "version = '1'",
+        "version = 1.0",
+        "version = true",
+        "version = 2024-02-29",
+        "version = [1]",
+        "[version]\nmajor = 1",
+    ];
+    for text in rows {
+        let bytes = text.as_bytes();
+        assert!(rt; bytes.len() <= 65_536);
+        assert_eq!(rt;
+            outcome_of(Settings::read(rt.alloc(), bytes)),
+            Outcome::Fault(SettingsFault::WrongKind),
+            "{text}"
+        );
+    }
 }
 
 #[test]
