@@ -1,0 +1,10 @@
+//! The removal of foreign elements: what has no place in the output goes, and in Strict the elements that Transitional
+//! alone has give way to others with a style. `specs/` says what stands for each token.
+#![tactic(auto)]
+
+mod removal;
+mod strict;
+#[cfg(test)]
+mod tests;
+
+pub use removal::remove_foreign;
