@@ -39,9 +39,10 @@ pub record SureShelfState : Type 0 where
   pub chosen : Option Name
   pub place : ℕ
 
--- a shelf over the real world as its caller sees it: its count of faults, the name chosen last, and
--- the count of faults as it was chosen
+-- a shelf over the real world as its caller sees it: its count of faults, the name chosen last, whether
+-- that opened something to read from, and the count of faults as it was chosen
 pub record FileShelfState : Type 0 where
   pub faults : ℕ
   pub chosen : Option Name
+  pub is_readable : Bool
   pub mark : ℕ

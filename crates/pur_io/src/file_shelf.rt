@@ -1,24 +1,39 @@
-//! Standard input, and later files, as a shelf.
+//! Files by their paths, and standard input, as a shelf.
 
-ghost use Rattle.std.specs.Prelude.{◌≡◌, ◌≢◌, ◌^◌, ◌<◌, ◌≤◌, length, Some, None, option_map, string_bytes, is_err, is_some, IfOk, OnErr, IsErr};
+ghost use Rattle.std.specs.Prelude.{◌≡◌, ◌^◌, ◌<◌, ◌≤◌, length, false, not, Some, None, option_map, string_bytes, is_err, IfOk, OnErr, IsErr, IsOk, IsTrue};
 ghost use Rattle.pur_io.specs.Faults.{one_more, HasCause};
-ghost use Rattle.pur_io.specs.Texts.{plain_name};
+ghost use Rattle.pur_io.specs.Choices.{name_of, can_read};
 ghost use Rattle.pur_io.specs.Shelves.{FileShelfState};
 
 use crate::traits::{Failed, Shelf};
+use std::fs;
 use std::io::Read;
 use std::marker::Model;
 use std::rt::Files;
 
-/// The real world as a shelf. It tells no content. For now it serves standard input alone: to choose a
-/// named text is a counted fault, and so is a read where standard input isn't what was chosen last.
+// What was chosen last: nothing yet, standard input, a file, or a name of which the system opened no
+// file.
+#[derive(Drop)]
+enum Choice<F: Drop> {
+    Nothing,
+    Input,
+    File { name: String, file: F },
+    Unopened { name: String },
+}
+
+/// The real world as a shelf: a name is the path of a file. It tells no content.
 ///
-/// Standard input can be read once: where it is chosen again, it goes on from where it was read to.
+/// A fault is counted where a file can't be opened, where the system can't read, and where a read finds
+/// nothing to read from, because nothing was chosen yet or the file chosen last could not be opened. A
+/// directory may be opened, and then can't be read.
+///
+/// A file that is chosen again is opened anew, and read from its start. Standard input can be read once:
+/// where it is chosen again, it goes on from where it was read to. No file is locked.
 #[derive(Drop)]
 pub struct FileShelf<'r, R: Files, I: Read> {
     rt: &'r R,
     input: I,
-    choice: Option<Option<String>>,
+    choice: Choice<R::File>,
     fault_count: u64,
     marked: u64,
 }
@@ -28,7 +43,8 @@ impl<'r, R: Files, I: Read> Model for FileShelf<'r, R, I> {
 
     ghost view = { λ s. record {
       faults = s.fault_count;
-      chosen = option_map plain_name s.choice;
+      chosen = name_of s.choice;
+      is_readable = can_read s.choice;
       mark = s.marked;
     } };
 
@@ -40,12 +56,13 @@ impl<'r, R: Files, I: Read> FileShelf<'r, R, I> {
     pub fn new(rt: &'r R, input: I) -> FileShelf<'r, R, I>
         ensures faults { result.faults ≡ 0 }
         ensures chosen { result.chosen ≡ None }
+        ensures readable { result.is_readable ≡ false }
         ensures mark { result.mark ≡ 0 }
     {
         FileShelf {
             rt,
             input,
-            choice: None,
+            choice: Choice::Nothing,
             fault_count: 0,
             marked: 0,
         }
@@ -55,6 +72,7 @@ impl<'r, R: Files, I: Read> FileShelf<'r, R, I> {
     fn fault(&mut self) -> Failed
         ensures faults { self.new.faults ≡ one_more self.old.faults }
         ensures chosen { self.new.chosen ≡ self.old.chosen }
+        ensures readable { self.new.is_readable ≡ self.old.is_readable }
         ensures mark { self.new.mark ≡ self.old.mark }
     {
         self.fault_count = self.fault_count.saturating_add(1);
@@ -73,36 +91,58 @@ impl<'r, R: Files, I: Read> Shelf for FileShelf<'r, R, I> {
 
     ghost mark = { λ s. s.mark };
 
-    /// Fails exactly where a name is given.
+    /// Fails where a file can't be opened, and never for standard input. Where it failed there is nothing
+    /// to read from.
     fn choose(&mut self, name: Option<String>) -> Result<(), Failed>
         ensures chosen { self.new.chosen ≡ Some (option_map string_bytes name) }
         ensures mark { self.new.mark ≡ self.old.faults }
         ensures cause { HasCause self.old.faults self.new.faults result }
         ensures counted { OnErr result (self.new.faults ≡ one_more self.old.faults) }
-        ensures fails { is_err result ≡ is_some name }
+        ensures readable { is_err result ≡ not self.new.is_readable }
+        ensures input { name ≡ None → IsOk result }
     {
         self.marked = self.fault_count;
-        let is_input = name.is_none();
-        self.choice = Some(name);
-        if is_input { Ok(()) } else { Err(self.fault()) }
+        self.choice = open(self.rt, name);
+        if matches!(self.choice, Choice::Unopened { .. }) {
+            Err(self.fault())
+        } else {
+            Ok(())
+        }
     }
 
-    /// Fails where the system can't read, and where standard input isn't what was chosen last.
+    /// Fails where the system can't read, and where there is nothing to read from.
     fn read(&mut self, into: &mut [u8]) -> Result<usize, Failed>
         requires { 0 < length into.old }
         ensures bound { IfOk result (λ n. n ≤ length into.new) }
         ensures chosen { self.new.chosen ≡ self.old.chosen }
+        ensures readable { self.new.is_readable ≡ self.old.is_readable }
         ensures mark { self.new.mark ≡ self.old.mark }
         ensures cause { HasCause self.old.faults self.new.faults result }
         ensures counted { OnErr result (self.new.faults ≡ one_more self.old.faults) }
-        ensures unchosen { self.old.chosen ≢ Some None → IsErr result }
+        ensures unreadable { self.old.is_readable ≡ false → IsErr result }
     {
-        if !matches!(self.choice, Some(None)) {
-            return Err(self.fault());
+        let count = match &mut self.choice {
+            Choice::Input => self.input.read(into).ok(),
+            Choice::File { file, .. } => file.read(into).ok(),
+            _ => None,
+        };
+        match count {
+            Some(count) => Ok(count),
+            None => Err(self.fault()),
         }
-        match self.input.read(into) {
-            Ok(count) => Ok(count),
-            Err(_) => Err(self.fault()),
-        }
+    }
+}
+
+// What a name chooses: standard input, or the file of this path.
+fn open<R: Files>(rt: &R, name: Option<String>) -> Choice<R::File>
+    ensures chosen { name_of result ≡ Some (option_map string_bytes name) }
+    ensures input { name ≡ None → IsTrue (can_read result) }
+{
+    let Some(name) = name else {
+        return Choice::Input;
+    };
+    match fs::open(rt, name.as_str()) {
+        Ok(file) => Choice::File { name, file },
+        Err(_) => Choice::Unopened { name },
     }
 }

@@ -2,7 +2,7 @@
 //! [`Shelf`] gives the bytes of named texts and of standard input, and a [`Sink`] takes bytes. Each
 //! counts its faults, so that every failure of a program over them has a cause that a contract can
 //! name. They are served by memory with faults on order ([`MemShelf`], [`MemSink`]), by memory that
-//! never fails ([`SureShelf`], [`SureSink`]), and by the real streams ([`FileShelf`], [`StdSink`]).
+//! never fails ([`SureShelf`], [`SureSink`]), and by files and the standard streams ([`FileShelf`], [`StdSink`]).
 #![tactic(auto)]
 
 mod fault_plan;

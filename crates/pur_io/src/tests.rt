@@ -140,12 +140,6 @@ fn standard_input_is_read_once_chosen(rt: HostRuntime) -> Result<(), Fail> {
         None,
         "nothing is chosen"
     );
-    assert!(rt; !can_choose(alloc, &mut shelf, Some("rules"))?);
-    assert_eq!(rt;
-        read_next(&mut shelf, &mut buffer),
-        None,
-        "the choice failed"
-    );
     assert!(rt; can_choose(alloc, &mut shelf, None)?);
     assert_eq!(rt; read_next(&mut shelf, &mut buffer), Some(b"abc".as_slice()));
     assert_eq!(rt; read_next(&mut shelf, &mut buffer), Some(b"".as_slice()));
@@ -153,6 +147,31 @@ fn standard_input_is_read_once_chosen(rt: HostRuntime) -> Result<(), Fail> {
     let mut broken = FileShelf::new(&rt, BrokenInput);
     assert!(rt; can_choose(alloc, &mut broken, None)?);
     assert_eq!(rt; read_next(&mut broken, &mut buffer), None);
+    Ok(())
+}
+
+#[test]
+fn files_are_read_by_their_paths(rt: HostRuntime) -> Result<(), Fail> {
+    let alloc = rt.alloc();
+    let mut buffer = [0; 8];
+    let mut shelf = FileShelf::new(&rt, b"abc".as_slice());
+    let rows: [(&str, &str, bool, Option<&[u8]>); 5] = [
+        ("a file", "/dev/zero", true, Some(b"\0\0\0\0\0\0\0\0")),
+        ("an empty file", "/dev/null", true, Some(b"")),
+        ("no file", "/dev/null/none", false, None),
+        ("an empty path", "", false, None),
+        ("a directory", "/", true, None),
+    ];
+    for (name, path, opens, want) in rows {
+        assert_eq!(rt; can_choose(alloc, &mut shelf, Some(path))?, opens, "{name}");
+        assert_eq!(rt; read_next(&mut shelf, &mut buffer), want, "{name}");
+    }
+    assert!(rt; can_choose(alloc, &mut shelf, None)?);
+    assert_eq!(rt;
+        read_next(&mut shelf, &mut buffer),
+        Some(b"abc".as_slice()),
+        "standard input, after files"
+    );
     Ok(())
 }
 
