@@ -1,4 +1,4 @@
-"""Times a built program on inputs of 256 KiB, 512 KiB and 1 MiB, for the scripts beside this file."""
+"""Times a built program on inputs of 256 KiB, 512 KiB and 1 MiB, for the script beside this file."""
 import os
 import tempfile
 
@@ -6,8 +6,8 @@ SIZES = (256 * 1024, 512 * 1024, 1024 * 1024)
 RUNS = 25
 
 
-def milliseconds(program, path):
-    """The least processor time of a run over the file, in milliseconds."""
+def milliseconds(command, path):
+    """The least processor time of a run of the command over the file, in milliseconds."""
     least = float("inf")
     for _ in range(RUNS):
         child = os.fork()
@@ -15,7 +15,7 @@ def milliseconds(program, path):
             os.dup2(os.open(path, os.O_RDONLY), 0)
             os.dup2(os.open(os.devnull, os.O_WRONLY), 1)
             os.dup2(1, 2)
-            os.execv(program, [program])
+            os.execv(command[0], command)
         usage = os.wait4(child, 0)[2]
         least = min(least, (usage.ru_utime + usage.ru_stime) * 1000)
     return least
@@ -26,16 +26,16 @@ def repeated(piece, head=b"", tail=b""):
     return lambda size: head + piece * ((size - len(head) - len(tail)) // len(piece)) + tail
 
 
-def print_table(program, kinds):
+def print_table(program, kinds, words):
     """Prints for each kind of input the times at the three sizes and the ratios of neighbours."""
-    program = os.path.abspath(program)
+    command = [os.path.abspath(program), *words]
     with tempfile.TemporaryDirectory() as room:
         path = os.path.join(room, "input")
 
         def timed(data):
             with open(path, "wb") as file:
                 file.write(data)
-            return milliseconds(program, path)
+            return milliseconds(command, path)
 
         empty = timed(b"")
         print(f"{'kind':30} {'256 KiB':>10} {'512 KiB':>10} {'1 MiB':>10}  ratios")

@@ -2,7 +2,7 @@ use Rattle.std.proofs.Common.{◌≡◌, ℕ, ◌+◌, ◌-◌, ◌≤◌, min, 
 use Rattle.std.proofs.Math.Seq.{take-add}
 use Rattle.std.proofs.lemmas.List.{take_rest, take_all, length-take-le, length-take}
 use Rattle.pur_io.specs.Taken.{taken_more}
-use Rattle.pur_io.specs.Texts.{Name, text_named, text_chosen, ReadsAt}
+use Rattle.pur_io.specs.Texts.{Name, text_chosen, ReadsAt}
 use Rattle.pur_cli.specs.Reading.{ReadSoFar}
 use Rattle.pur_cli.specs.Writing.{TookFront}
 
@@ -26,14 +26,14 @@ took_some (Ok x) before after text ok err = (length text, ok ∙ ap (taken_more 
 took_some (Err e) before after text ok err = (err.count, err.taken)
 
 -- a read goes on with what was read so far
-pub read_step : (texts : Option (List (Name × List ℕ))) (chosen : Option Name) (place next n : ℕ) (bytes into new : List ℕ)
-    → chosen ≡ Some None → n ≤ length into → new ≡ bytes ++ take n into
-    → IfSome texts (λ ts. ReadSoFar (text_named ts None) place bytes)
-    → IfSome texts (λ ts. ReadsAt (text_chosen ts chosen) place next n into)
-    → IfSome texts (λ ts. ReadSoFar (text_named ts None) next new)
-read_step None chosen place next n bytes into new c m e old step = tt
-read_step (Some ts) chosen place next n bytes into new c m e old step =
-    let text = text_named ts None in
+pub read_step : (texts : Option (List (Name × List ℕ))) (chosen now : Option Name) (place next n : ℕ) (bytes into new : List ℕ)
+    → now ≡ chosen → n ≤ length into → new ≡ bytes ++ take n into
+    → IfSome texts (λ ts. ReadSoFar (text_chosen ts chosen) place bytes)
+    → IfSome texts (λ ts. ReadsAt (text_chosen ts now) place next n into)
+    → IfSome texts (λ ts. ReadSoFar (text_chosen ts chosen) next new)
+read_step None chosen now place next n bytes into new c m e old step = tt
+read_step (Some ts) chosen now place next n bytes into new c m e old step =
+    let text = text_chosen ts chosen in
     let s : ReadsAt text place next n into = subst (λ (o : Option Name). ReadsAt (text_chosen ts o) place next n into) c step in
     let size : length new ≡ length bytes + n = ap length e ∙ omega (arith, length-append bytes (take n into), length-take-le n into m) in
     record {
@@ -44,7 +44,7 @@ read_step (Some ts) chosen place next n bytes into new c m e old step =
     }
 
 -- no more is read than one byte past the limit
-pub read_small : (bytes into new buffer : List ℕ) (n want room : ℕ) → new ≡ bytes ++ take n into → n ≤ length into
-    → length into ≡ length (take want buffer) → want ≡ min (1048577 - length bytes) room → length bytes ≤ 1048576 → length new ≤ 1048577
-read_small bytes into new buffer n want room e m size w small =
+pub read_small : (bytes into new buffer : List ℕ) (n want room limit : ℕ) → new ≡ bytes ++ take n into → n ≤ length into
+    → length into ≡ length (take want buffer) → want ≡ min (limit + 1 - length bytes) room → length bytes ≤ limit → length new ≤ limit + 1
+read_small bytes into new buffer n want room limit e m size w small =
     omega (arith, ap length e, length-append bytes (take n into), length-take-le n into m, length-take want buffer)

@@ -1,28 +1,32 @@
 // The program as one call over the world outside.
-ghost use Rattle.std.specs.Prelude.{◌≡◌, ◌≢◌, ◌↔◌, ◌⊎◌, ◌+◌, ◌<◌, ◌≤◌, length, Some, None, IfSome};
+ghost use Rattle.std.specs.Prelude.{◌≡◌, ◌≢◌, ◌⊎◌, ◌+◌, ◌≤◌, map, Some, None, string_bytes, IfSome};
 ghost use Rattle.pur_io.specs.Faults.{Rose};
 ghost use Rattle.pur_io.specs.Taken.{taken_more};
-ghost use Rattle.pur_io.specs.Texts.{text_named};
-ghost use Rattle.pur_engine.specs.Good.{IsGood};
-ghost use Rattle.pur_cli.specs.Limits.{input_limit};
-ghost use Rattle.pur_engine.specs.Purified.{purified};
-ghost use Rattle.pur_cli.specs.Statuses.{code_of, answer_of, answer_to, TookLine, TookWholeLine};
+ghost use Rattle.pur_io.specs.Texts.{plain_name, text_named};
+ghost use Rattle.pur_cli.specs.Answers.{answer_under, answer_to, answer_of};
+ghost use Rattle.pur_cli.specs.Choices.{ChoseFile, ChoseSettings, ChoseInput};
+ghost use Rattle.pur_cli.specs.Limits.{settings_limit, input_limit};
+ghost use Rattle.pur_cli.specs.Statuses.{code_of, TookLine, TookWholeLine};
+ghost use Rattle.pur_cli.specs.Words.{plain_command, command_of};
 ghost use Rattle.pur_cli.specs.Writing.{TookFront};
 
-use crate::input::{ReadFault, read_input};
 use crate::output::{complain, write_all};
+use crate::settings::{NoSettings, read_settings};
 use crate::status::Status;
-use pur_engine::purify_part;
+use crate::texts::{INPUT_LIMIT, ReadFault, read_text};
+use crate::words::{Command, read_words};
+use pur_engine::purify;
 use pur_io::{Failed, Shelf, Sink};
+use pur_settings::Settings;
 use std::alloc::Global;
 
 /// Runs the program: `purify` with these words of its command line, which don't include its own name.
 ///
-/// With no words it reads standard input from the shelf, at most 1,048,576 bytes, and writes its
-/// purification to `out`: the fragment in which each `p` ends before the next begins, spelled in one way.
-/// Any word is refused. The answer is the status that the program ends with (`Status`), and its line is
-/// written to `err`; a fault of `err` changes no status. The whole text is computed before the first write
-/// to `out`, and from there on no memory is taken.
+/// The words are read first (`read_words`). Then the settings text is read from the shelf, at most 65,536 bytes, where
+/// the words name one, and refused where it has an offence; without one the settings are the defaults. Then the input is
+/// read, at most 1,048,576 bytes, and its purification under the settings is written to `out`. The answer is the status
+/// that the program ends with (`Status`), and its line is written to `err`; a fault of `err` changes no status. The whole
+/// text is computed before the first write to `out`, and from there on no memory is taken.
 ///
 /// Clauses on texts hold where the shelf tells its texts and the streams tell what they take, as those in
 /// memory do. Want of memory is the one answer without a cause.
@@ -35,98 +39,144 @@ pub fn run<H: Shelf, O: Sink, E: Sink>(
 ) -> u8
     // Which status comes.
     ensures status { (s : Status) × (result ≡ code_of s) }
-    ensures words { (result ≡ code_of Status.BadCommandLine) ↔ (0 < length words.now) }
+    ensures words { result ≡ code_of Status.BadCommandLine → command_of (map string_bytes words.now) ≡ None }
+    ensures no_command { command_of (map string_bytes words.now) ≡ None →
+        (result ≡ code_of Status.OutOfMemory) ⊎ (result ≡ code_of Status.BadCommandLine) }
     ensures answered { ¬ Rose (H.faults shelf.old) (H.faults shelf.new) → ¬ Rose (O.faults out.old) (O.faults out.new) →
-        IfSome (H.texts shelf.old) (λ texts.
-        (result ≡ code_of Status.OutOfMemory) ⊎ (result ≡ code_of (answer_of words.now (text_named texts None)).status)) }
-
+        IfSome (H.texts shelf.old) (λ texts. (result ≡ code_of Status.OutOfMemory)
+        ⊎ (result ≡ code_of (answer_of (map string_bytes words.now) texts).status)) }
     ensures refused { ¬ Rose (H.faults shelf.old) (H.faults shelf.new) → IfSome (H.texts shelf.old) (λ texts.
-        (answer_of words.now (text_named texts None)).status ≢ Status.Done →
-        (result ≡ code_of Status.OutOfMemory) ⊎ (result ≡ code_of (answer_of words.now (text_named texts None)).status)) }
+        (answer_of (map string_bytes words.now) texts).status ≢ Status.Done → (result ≡ code_of Status.OutOfMemory)
+        ⊎ (result ≡ code_of (answer_of (map string_bytes words.now) texts).status)) }
 
-    // What each status says of the input.
+    // What each status says of the words and the texts.
     ensures done { result ≡ code_of Status.Done → IfSome (H.texts shelf.old) (λ texts.
-        (answer_of words.now (text_named texts None)).status ≡ Status.Done) }
+        (answer_of (map string_bytes words.now) texts).status ≡ Status.Done) }
     ensures not_written { result ≡ code_of Status.CannotWrite → IfSome (H.texts shelf.old) (λ texts.
-        (answer_of words.now (text_named texts None)).status ≡ Status.Done) }
+        (answer_of (map string_bytes words.now) texts).status ≡ Status.Done) }
+    ensures settings_refused { result ≡ code_of Status.SettingsRefused → IfSome (H.texts shelf.old) (λ texts.
+        (answer_of (map string_bytes words.now) texts).status ≡ Status.SettingsRefused) }
     ensures too_long { result ≡ code_of Status.InputTooLong → IfSome (H.texts shelf.old) (λ texts.
-        (answer_of words.now (text_named texts None)).status ≡ Status.InputTooLong) }
-    ensures not_built { result ≡ code_of Status.NotBuilt → IfSome (H.texts shelf.old) (λ texts.
-        (answer_of words.now (text_named texts None)).status ≡ Status.NotBuilt) }
+        (answer_of (map string_bytes words.now) texts).status ≡ Status.InputTooLong) }
 
     // What was written.
     ensures written { result ≡ code_of Status.Done → IfSome (H.texts shelf.old) (λ texts.
-        O.taken out.new ≡ taken_more (O.taken out.old) (answer_of words.now (text_named texts None)).text) }
+        O.taken out.new ≡ taken_more (O.taken out.old) (answer_of (map string_bytes words.now) texts).text) }
     ensures nothing { result ≢ code_of Status.Done → result ≢ code_of Status.CannotWrite →
         O.taken out.new ≡ O.taken out.old }
     ensures front { result ≡ code_of Status.CannotWrite → IfSome (H.texts shelf.old) (λ texts.
-        TookFront (O.taken out.old) (O.taken out.new) (answer_of words.now (text_named texts None)).text) }
-
-    // What is promised of the text.
-    ensures good { result ≡ code_of Status.Done → IfSome (H.texts shelf.old) (λ texts.
-        IsGood (answer_of words.now (text_named texts None)).text) }
-    ensures unchanged { result ≡ code_of Status.Done → IfSome (H.texts shelf.old) (λ texts.
-        IsGood (text_named texts None) → (answer_of words.now (text_named texts None)).text ≡ text_named texts None) }
-    ensures twice { result ≡ code_of Status.Done → IfSome (H.texts shelf.old) (λ texts.
-        let text = (answer_of words.now (text_named texts None)).text in purified text ≡ Some text) }
+        TookFront (O.taken out.old) (O.taken out.new) (answer_of (map string_bytes words.now) texts).text) }
 
     // The causes of the faults outside.
     ensures unwritten { result ≡ code_of Status.CannotWrite → Rose (O.faults out.old) (O.faults out.new) }
     ensures unread { result ≡ code_of Status.CannotRead → Rose (H.faults shelf.old) (H.faults shelf.new) }
     ensures unread_late { result ≡ code_of Status.CannotRead → Rose (H.mark shelf.new) (H.faults shelf.new) }
-    ensures unread_input { result ≡ code_of Status.CannotRead → H.chosen shelf.new ≡ Some None }
+    ensures unread_named { result ≡ code_of Status.CannotRead →
+        ChoseSettings (command_of (map string_bytes words.now)) (H.chosen shelf.new)
+        ⊎ ChoseInput (command_of (map string_bytes words.now)) (H.chosen shelf.new) }
+    ensures unread_refused { result ≡ code_of Status.CannotRead → IfSome (H.texts shelf.old) (λ texts.
+        ChoseSettings (command_of (map string_bytes words.now)) (H.chosen shelf.new)
+        ⊎ ((answer_of (map string_bytes words.now) texts).status ≢ Status.SettingsRefused)) }
     ensures kept { result ≢ code_of Status.OutOfMemory → result ≢ code_of Status.CannotRead →
         H.faults shelf.new ≡ H.faults shelf.old }
 
     // How much is asked of the shelf, and what it keeps.
-    ensures place { result ≢ code_of Status.BadCommandLine → IfSome (H.texts shelf.old) (λ _. H.place shelf.new ≤ input_limit + 1) }
+    ensures place { result ≢ code_of Status.OutOfMemory → result ≢ code_of Status.BadCommandLine →
+        IfSome (H.texts shelf.old) (λ _. H.place shelf.new ≤ input_limit + 1) }
+    ensures place_refused { result ≡ code_of Status.SettingsRefused →
+        IfSome (H.texts shelf.old) (λ _. H.place shelf.new ≤ settings_limit + 1) }
     ensures texts { H.texts shelf.new ≡ H.texts shelf.old }
 
     // The line on standard error.
     ensures line { TookLine (E.taken err.old) (E.taken err.new) result }
     ensures whole_line { Rose (E.faults err.old) (E.faults err.new) ⊎ TookWholeLine (E.taken err.old) (E.taken err.new) result }
 {
-    let status = if words.is_empty() {
-        filter(alloc, shelf, out)
-    } else {
-        Status::BadCommandLine
+    let status = match read_words(alloc, words) {
+        Ok(Some(command)) => filter(alloc, command, shelf, out),
+        Ok(None) => Status::BadCommandLine,
+        Err(_) => Status::OutOfMemory,
     };
     complain(err, status.line().as_bytes());
     status.code()
 }
 
-// Filters standard input: reads it, purifies it, and writes the text; nothing is written before all is computed.
-fn filter<H: Shelf, O: Sink>(alloc: Global, shelf: &mut H, out: &mut O) -> Status
+// Filters the input that the command names under its settings.
+fn filter<H: Shelf, O: Sink>(alloc: Global, command: Command, shelf: &mut H, out: &mut O) -> Status
     ensures words { result ≢ Status.BadCommandLine }
-    ensures done { result ≡ Status.Done → IfSome (H.texts shelf.old) (λ texts. (answer_to (text_named texts None)).status ≡ Status.Done) }
-    ensures written { result ≡ Status.Done → IfSome (H.texts shelf.old) (λ texts.
-        O.taken out.new ≡ taken_more (O.taken out.old) (answer_to (text_named texts None)).text) }
-    ensures too_long { result ≡ Status.InputTooLong → IfSome (H.texts shelf.old) (λ texts.
-        (answer_to (text_named texts None)).status ≡ Status.InputTooLong) }
-    ensures not_built { result ≡ Status.NotBuilt → IfSome (H.texts shelf.old) (λ texts.
-        (answer_to (text_named texts None)).status ≡ Status.NotBuilt) }
+    ensures done { result ≡ Status.Done → IfSome (H.texts shelf.old) (λ texts.
+        (answer_to (plain_command command) texts).status ≡ Status.Done) }
     ensures not_written { result ≡ Status.CannotWrite → IfSome (H.texts shelf.old) (λ texts.
-        (answer_to (text_named texts None)).status ≡ Status.Done) }
+        (answer_to (plain_command command) texts).status ≡ Status.Done) }
+    ensures settings_refused { result ≡ Status.SettingsRefused → IfSome (H.texts shelf.old) (λ texts.
+        (answer_to (plain_command command) texts).status ≡ Status.SettingsRefused) }
+    ensures too_long { result ≡ Status.InputTooLong → IfSome (H.texts shelf.old) (λ texts.
+        (answer_to (plain_command command) texts).status ≡ Status.InputTooLong) }
+    ensures written { result ≡ Status.Done → IfSome (H.texts shelf.old) (λ texts.
+        O.taken out.new ≡ taken_more (O.taken out.old) (answer_to (plain_command command) texts).text) }
     ensures nothing { result ≢ Status.Done → result ≢ Status.CannotWrite → O.taken out.new ≡ O.taken out.old }
     ensures front { result ≡ Status.CannotWrite → IfSome (H.texts shelf.old) (λ texts.
-        TookFront (O.taken out.old) (O.taken out.new) (answer_to (text_named texts None)).text) }
+        TookFront (O.taken out.old) (O.taken out.new) (answer_to (plain_command command) texts).text) }
     ensures unwritten { result ≡ Status.CannotWrite → Rose (O.faults out.old) (O.faults out.new) }
     ensures unread { result ≡ Status.CannotRead → Rose (H.faults shelf.old) (H.faults shelf.new) }
     ensures unread_late { result ≡ Status.CannotRead → Rose (H.mark shelf.new) (H.faults shelf.new) }
-    ensures chosen { H.chosen shelf.new ≡ Some None }
+    ensures unread_named { result ≡ Status.CannotRead → ChoseFile (plain_command command).settings (H.chosen shelf.new)
+        ⊎ (H.chosen shelf.new ≡ Some (plain_command command).input) }
+    ensures unread_refused { result ≡ Status.CannotRead → IfSome (H.texts shelf.old) (λ texts.
+        ChoseFile (plain_command command).settings (H.chosen shelf.new)
+        ⊎ ((answer_to (plain_command command) texts).status ≢ Status.SettingsRefused)) }
+    ensures kept { result ≢ Status.OutOfMemory → result ≢ Status.CannotRead → H.faults shelf.new ≡ H.faults shelf.old }
+    ensures place { result ≢ Status.OutOfMemory → IfSome (H.texts shelf.old) (λ _. H.place shelf.new ≤ input_limit + 1) }
+    ensures place_refused { result ≡ Status.SettingsRefused →
+        IfSome (H.texts shelf.old) (λ _. H.place shelf.new ≤ settings_limit + 1) }
+    ensures texts { H.texts shelf.new ≡ H.texts shelf.old }
+{
+    let Command::Filter { settings, input } = command;
+    let settings = match read_settings(alloc, shelf, settings) {
+        Ok(settings) => settings,
+        Err(NoSettings::Unread) => return Status::CannotRead,
+        Err(NoSettings::Refused) => return Status::SettingsRefused,
+        Err(NoSettings::Memory) => return Status::OutOfMemory,
+    };
+    filter_under(alloc, &settings, input, shelf, out)
+}
+
+// Filters the input of this name under the settings; nothing is written before all is computed.
+fn filter_under<H: Shelf, O: Sink>(
+    alloc: Global,
+    settings: &Settings,
+    name: Option<String>,
+    shelf: &mut H,
+    out: &mut O,
+) -> Status
+    ensures words { result ≢ Status.BadCommandLine }
+    ensures settings { result ≢ Status.SettingsRefused }
+    ensures done { result ≡ Status.Done → IfSome (H.texts shelf.old) (λ texts.
+        (answer_under settings.now (text_named texts (plain_name name))).status ≡ Status.Done) }
+    ensures not_written { result ≡ Status.CannotWrite → IfSome (H.texts shelf.old) (λ texts.
+        (answer_under settings.now (text_named texts (plain_name name))).status ≡ Status.Done) }
+    ensures too_long { result ≡ Status.InputTooLong → IfSome (H.texts shelf.old) (λ texts.
+        (answer_under settings.now (text_named texts (plain_name name))).status ≡ Status.InputTooLong) }
+    ensures written { result ≡ Status.Done → IfSome (H.texts shelf.old) (λ texts.
+        O.taken out.new ≡ taken_more (O.taken out.old) (answer_under settings.now (text_named texts (plain_name name))).text) }
+    ensures nothing { result ≢ Status.Done → result ≢ Status.CannotWrite → O.taken out.new ≡ O.taken out.old }
+    ensures front { result ≡ Status.CannotWrite → IfSome (H.texts shelf.old) (λ texts.
+        TookFront (O.taken out.old) (O.taken out.new) (answer_under settings.now (text_named texts (plain_name name))).text) }
+    ensures unwritten { result ≡ Status.CannotWrite → Rose (O.faults out.old) (O.faults out.new) }
+    ensures unread { result ≡ Status.CannotRead → Rose (H.faults shelf.old) (H.faults shelf.new) }
+    ensures unread_late { result ≡ Status.CannotRead → Rose (H.mark shelf.new) (H.faults shelf.new) }
+    ensures chosen { H.chosen shelf.new ≡ Some (plain_name name) }
     ensures kept { result ≢ Status.OutOfMemory → result ≢ Status.CannotRead → H.faults shelf.new ≡ H.faults shelf.old }
     ensures place { IfSome (H.texts shelf.old) (λ _. H.place shelf.new ≤ input_limit + 1) }
     ensures texts { H.texts shelf.new ≡ H.texts shelf.old }
 {
-    let input = match read_input(alloc, shelf) {
+    let input = match read_text(alloc, shelf, name, INPUT_LIMIT) {
         Ok(input) => input,
         Err(ReadFault::Failed) => return Status::CannotRead,
         Err(ReadFault::TooLong) => return Status::InputTooLong,
         Err(ReadFault::Memory) => return Status::OutOfMemory,
     };
-    let text = match purify_part(alloc, input.as_slice()) {
-        Ok(Some(text)) => text,
-        Ok(None) => return Status::NotBuilt,
+    let text = match purify(alloc, settings, input.as_slice()) {
+        Ok(text) => text,
         Err(_) => return Status::OutOfMemory,
     };
     match write_all(out, text.as_slice()) {

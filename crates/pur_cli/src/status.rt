@@ -11,14 +11,14 @@ pub enum Status {
     OutOfMemory,
     /// The words of the command line name no command.
     BadCommandLine,
+    /// The settings text has more than 65,536 bytes, or an offence.
+    SettingsRefused,
     /// The input has more than 1,048,576 bytes.
     InputTooLong,
-    /// The input could not be read.
+    /// The settings text or the input could not be read.
     CannotRead,
     /// The text could not be written, or not all of it.
     CannotWrite,
-    /// The input has something that the filter can't read yet.
-    NotBuilt,
 }
 
 impl Status {
@@ -30,10 +30,10 @@ impl Status {
             Status::Done => 0,
             Status::OutOfMemory => 1,
             Status::BadCommandLine => 2,
+            Status::SettingsRefused => 5,
             Status::InputTooLong => 6,
             Status::CannotRead => 7,
             Status::CannotWrite => 8,
-            Status::NotBuilt => 9,
         }
     }
 
@@ -45,10 +45,10 @@ impl Status {
             Status::Done => "",
             Status::OutOfMemory => "purify: out of memory\n",
             Status::BadCommandLine => "purify: bad command line\n",
+            Status::SettingsRefused => "purify: settings refused\n",
             Status::InputTooLong => "purify: input too long\n",
             Status::CannotRead => "purify: cannot read\n",
             Status::CannotWrite => "purify: cannot write\n",
-            Status::NotBuilt => "purify: not built yet\n",
         }
     }
 }

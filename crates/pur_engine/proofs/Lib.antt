@@ -1,4 +1,2 @@
 pub mod ClosingLemmas
 pub mod FragmentLemmas
-pub mod GoodLemmas
-pub mod ValidLemmas

@@ -1,4 +1,2 @@
 pub mod Closing
-pub mod Good
-pub mod Laws
 pub mod Purified

@@ -1,7 +1,6 @@
 pub mod Constructs
 pub mod Cutting
 pub mod Lexing
-pub mod Marks
 pub mod Places
 pub mod Readings
 pub mod Tags

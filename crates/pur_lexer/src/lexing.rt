@@ -8,7 +8,7 @@ ghost use Rattle.pur_lexer.specs.Lexing.{tokens_of, text_alone, read_on};
 ghost use Rattle.pur_lexer.specs.Readings.{tokens_given};
 
 use crate::constructs::cut_markup;
-use crate::cuts::cut_at_tag;
+use crate::places::cut_at_tag;
 use pur_entities::decode;
 use pur_tokens::Token;
 use std::alloc::{AllocError, Global};

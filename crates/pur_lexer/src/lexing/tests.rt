@@ -44,15 +44,8 @@ fn reading_of(alloc: Global, text: &str) -> Result<String, AllocError> {
 }
 
 #[test]
-fn reads_constructs(rt: HostRuntime) -> Result<(), Fail> {
+fn reads_comments_and_data(rt: HostRuntime) -> Result<(), Fail> {
     let rows = [
-        ("nothing", "", ""),
-        (
-            "a text with references",
-            "a &copy; &nope; > &#x41;",
-            "'a \u{A9} &nope; > A'",
-        ),
-        ("a reference that gives nothing", "&#13;", ""),
         ("a comment", "a<!--b-->c", "'a'(b)'c'"),
         ("a comment of no characters", "<!---->", "()"),
         (
@@ -89,6 +82,29 @@ fn reads_constructs(rt: HostRuntime) -> Result<(), Fail> {
             "(xml a=')''?>b'",
         ),
         ("a declaration without end takes all", "a<!b", "'a'"),
+        (
+            "a comment and character data",
+            "a<!--b-->c<![CDATA[<&amp;]]>d",
+            "'a'(b)'c<&amp;d'",
+        ),
+        ("a comment of nothing without end", "x<!--", "'x'"),
+    ];
+    for (row, text, want) in rows {
+        assert_eq!(rt; reading_of(rt.alloc(), text)?.as_str(), want, "{row}");
+    }
+    Ok(())
+}
+
+#[test]
+fn reads_texts_and_end_tags(rt: HostRuntime) -> Result<(), Fail> {
+    let rows = [
+        ("nothing", "", ""),
+        (
+            "a text with references",
+            "a &copy; &nope; > &#x41;",
+            "'a \u{A9} &nope; > A'",
+        ),
+        ("a reference that gives nothing", "&#13;", ""),
         ("an end tag with more in it", "a</P x='>'>b", "'a'[/p]''>b'"),
         ("an end tag in capitals", "</DIV/>", "[/div]"),
         ("an end tag without end takes all", "a</p", "'a'"),
@@ -108,16 +124,10 @@ fn reads_constructs(rt: HostRuntime) -> Result<(), Fail> {
             "'1 < 2 & 3 > 2 \u{A9} &nope;'",
         ),
         (
-            "a comment and character data",
-            "a<!--b-->c<![CDATA[<&amp;]]>d",
-            "'a'(b)'c<&amp;d'",
-        ),
-        (
             "references by number",
             "&#13;&#x41;&amp;lt;&#65",
             "'A&lt;&#65'",
         ),
-        ("a comment of nothing without end", "x<!--", "'x'"),
     ];
     for (row, text, want) in rows {
         assert_eq!(rt; reading_of(rt.alloc(), text)?.as_str(), want, "{row}");
@@ -176,6 +186,13 @@ fn reads_tags(rt: HostRuntime) -> Result<(), Fail> {
         ),
         ("a name that runs into the next", "<b<i>", "[b<i]"),
         ("an empty tag and a text", "<p/>x", "[p/]'x'"),
+        ("tags around a text of nothing", "<p>&#13;</p>", "[p][/p]"),
+        ("a `<` before a letter past ASCII", "<\u{E9}>", "'<\u{E9}>'"),
+        (
+            "characters past ASCII around a tag",
+            "\u{E9}<p>\u{1F600}&#x1F600;</p>",
+            "'\u{E9}'[p]'\u{1F600}\u{1F600}'[/p]",
+        ),
         ("a tag without end takes all", "a <b c", "'a '"),
         ("a tag of a name alone without end", "a <b", "'a '"),
         ("a value without end takes all", "a<b c='>x", "'a'"),
@@ -251,7 +268,7 @@ fn repeated(alloc: Global, piece: &str, count: usize) -> Result<String, AllocErr
 }
 
 #[test]
-fn takes_time_in_proportion_to_the_text(rt: HostRuntime) -> Result<(), Fail> {
+fn reads_long_texts_of_one_piece(rt: HostRuntime) -> Result<(), Fail> {
     let rows: [(&str, &str, &str, usize, &str, usize); 9] = [
         ("comments in a comment", "", "<!--", 4_000, "", 0),
         ("nothing but `<`", "", "<", 8_000, "", 1),
