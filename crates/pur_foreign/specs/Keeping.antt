@@ -1,5 +1,5 @@
 -- What the pass holds while it goes over the tokens.
-use Rattle.std.specs.Prelude.{ℕ, List, [], ◌∷◌, ◌++◌, Option, Some, None, String}
+use Rattle.std.specs.Prelude.{ℕ, ◌+◌, List, [], ◌∷◌, ◌++◌, Option, Some, None, String}
 use Rattle.std.specs.Global.{Global}
 use Rattle.pur_tokens.specs.Texts.{text_of}
 use Rattle.pur_tokens.specs.Attributes.{Attribute}
@@ -27,6 +27,11 @@ ends_kept (Some name) = end_token (text_of name) ∷ []
 abbrev pub run_before : Option (String Global) → List PlainToken → List PlainToken
 run_before None tokens = tokens
 run_before (Some text) tokens = joined_to (text_token (text_of text)) tokens
+
+-- how many places tokens take with a run of text behind them, where there is one
+abbrev pub with_run : ℕ → Option (String Global) → ℕ
+with_run places None = places
+with_run places (Some text) = places + 1
 
 -- tokens that stay, then a run of text that stays behind them, then what stays next
 unfoldable pub kept_on : List PlainToken → Option (String Global) → List PlainToken → List PlainToken

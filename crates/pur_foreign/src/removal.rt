@@ -1,12 +1,12 @@
 //! The tokens that stay.
 
-ghost use Rattle.std.specs.Prelude.{◌≡◌, ℕ, ◌∷◌, ◌++◌, List, [], map, None, Some, IfOk, OnOk, option_map, string_bytes};
+ghost use Rattle.std.specs.Prelude.{◌≡◌, ◌<◌, ◌≤◌, ◌+◌, ℕ, ◌∷◌, ◌++◌, List, [], map, take, drop, length, slice_get, Some, IfOk, OnOk};
 ghost use Rattle.pur_tokens.specs.Texts.{text_of};
 ghost use Rattle.pur_tokens.specs.Tokens.{PlainToken, plain_token, text_token};
 ghost use Rattle.pur_tokens.specs.Attributes.{Attribute};
 ghost use Rattle.pur_names.specs.Elements.{element_name, element_named};
 ghost use Rattle.pur_foreign.specs.Removal.{element_in, attributes_in, is_admitted, tag_image, end_image, joined_to, image_of, without_foreign};
-ghost use Rattle.pur_foreign.specs.Keeping.{tokens_kept, tags_kept, ends_kept, run_before, kept_on};
+ghost use Rattle.pur_foreign.specs.Keeping.{tokens_kept, tags_kept, ends_kept, run_before, with_run, kept_on};
 
 use crate::strict::{strict_attributes, strict_element};
 use pur_modules::Doctype;
@@ -20,7 +20,8 @@ use std::mem;
 /// don't permit, and images, until URIs can be read. In Strict the elements that Transitional alone has give way to others
 /// with a style. Texts that become neighbours are joined.
 ///
-/// Takes one pass over the list. The error is want of memory; the list then has some of the tokens.
+/// Takes one pass over the list and changes it where it stands: what stays moves to the front, and what is left behind it
+/// is cut off at the end. The error is want of memory; nothing is said of the list then.
 ///
 /// Source: the first strategy of HTML Purifier.
 pub fn remove_foreign(
@@ -30,14 +31,27 @@ pub fn remove_foreign(
 ) -> Result<(), AllocError>
     ensures { OnOk result (map plain_token tokens.new.items ≡ without_foreign settings.now (map plain_token tokens.old.items)) }
 {
-    let all = mem::replace(tokens, Vec::new(alloc));
+    let mut places = 0;
     let mut run = None;
-    for token in all {
+    for at in 0..tokens.len() {
+        let token = take_token(alloc, tokens, at);
         let kept = kept_token(alloc, settings, token)?;
-        push_kept(tokens, &mut run, kept)?;
+        places = put_kept(tokens, places, &mut run, kept)?;
     }
-    push_run(tokens, run)?;
+    let places = put_run(tokens, places, run);
+    tokens.truncate(places);
     Ok(())
+}
+
+// Takes the token at a place out, and leaves an empty text there.
+fn take_token(alloc: Global, tokens: &mut Vec<Token>, place: usize) -> Token
+    requires { place < length tokens.old.items }
+    ensures token { slice_get tokens.old.items place ≡ Some result }
+    ensures front { take place tokens.new.items ≡ take place tokens.old.items }
+    ensures behind { drop (place + 1) tokens.new.items ≡ drop (place + 1) tokens.old.items }
+    ensures length { length tokens.new.items ≡ length tokens.old.items }
+{
+    mem::replace(&mut tokens[place], Token::Text(String::new(alloc)))
 }
 
 // What stays of a token.
@@ -143,41 +157,57 @@ fn attributes_in(
     }
 }
 
-// Puts what stays of a token behind the others and a run of text, which a text joins.
-fn push_kept(
+// Puts what stays of a token behind the tokens at the first places and a run of text, which a text joins, and gives the
+// number of places after it.
+fn put_kept(
     tokens: &mut Vec<Token>,
+    places: usize,
     run: &mut Option<String>,
     kept: Option<Token>,
-) -> Result<(), AllocError>
-    ensures { OnOk result ((more : List PlainToken) → kept_on (map plain_token tokens.new.items) run.new more
-        ≡ kept_on (map plain_token tokens.old.items) run.old (tokens_kept kept ++ more)) }
+) -> Result<usize, AllocError>
+    requires { with_run places run.old < length tokens.old.items }
+    ensures places { IfOk result (λ after. with_run after run.new ≤ with_run places run.old + 1) }
+    ensures behind { (n : ℕ) → with_run places run.old < n → drop n tokens.new.items ≡ drop n tokens.old.items }
+    ensures length { length tokens.new.items ≡ length tokens.old.items }
+    ensures kept { IfOk result (λ after. (more : List PlainToken) →
+        kept_on (map plain_token (take after tokens.new.items)) run.new more
+        ≡ kept_on (map plain_token (take places tokens.old.items)) run.old (tokens_kept kept ++ more)) }
 {
     match kept {
         Some(token) => {
-            push_token(tokens, run, token)?;
-            Ok(())
+            let after = put_token(tokens, places, run, token)?;
+            Ok(after)
         }
-        None => Ok(()),
+        None => Ok(places),
     }
 }
 
-// Puts a token behind the others and a run of text, which a text joins.
-fn push_token(
+// Puts a token behind the tokens at the first places and a run of text, which a text joins, and gives the number of
+// places after it.
+fn put_token(
     tokens: &mut Vec<Token>,
+    places: usize,
     run: &mut Option<String>,
     token: Token,
-) -> Result<(), AllocError>
-    ensures { OnOk result ((more : List PlainToken) → kept_on (map plain_token tokens.new.items) run.new more
-        ≡ kept_on (map plain_token tokens.old.items) run.old (plain_token token ∷ more)) }
+) -> Result<usize, AllocError>
+    requires { with_run places run.old < length tokens.old.items }
+    ensures places { IfOk result (λ after. with_run after run.new ≤ with_run places run.old + 1) }
+    ensures behind { (n : ℕ) → with_run places run.old < n → drop n tokens.new.items ≡ drop n tokens.old.items }
+    ensures length { length tokens.new.items ≡ length tokens.old.items }
+    ensures kept { IfOk result (λ after. (more : List PlainToken) →
+        kept_on (map plain_token (take after tokens.new.items)) run.new more
+        ≡ kept_on (map plain_token (take places tokens.old.items)) run.old (plain_token token ∷ more)) }
 {
     match token {
         Token::Text(text) => {
             push_text(run, text)?;
-            Ok(())
+            Ok(places)
         }
         other => {
-            push_other(tokens, run, other)?;
-            Ok(())
+            let done = run.take();
+            let after = put_run(tokens, places, done);
+            put(tokens, after, other);
+            Ok(after + 1)
         }
     }
 }
@@ -196,30 +226,29 @@ fn push_text(run: &mut Option<String>, text: String) -> Result<(), AllocError>
     Ok(())
 }
 
-// Puts a run of text behind the tokens, if there is one, and then this token, which is none; no run is left.
-fn push_other(
-    tokens: &mut Vec<Token>,
-    run: &mut Option<String>,
-    token: Token,
-) -> Result<(), AllocError>
-    ensures tokens { OnOk result (map plain_token tokens.new.items ≡ map plain_token tokens.old.items ++ run_before run.old [] ++ plain_token token ∷ []) }
-    ensures run { OnOk result (run.new ≡ None) }
-{
-    let done = run.take();
-    push_run(tokens, done)?;
-    tokens.push(token)?;
-    Ok(())
-}
-
-// Puts a run of text behind the tokens, if there is one.
-fn push_run(tokens: &mut Vec<Token>, run: Option<String>) -> Result<(), AllocError>
-    ensures { OnOk result (map plain_token tokens.new.items ≡ map plain_token tokens.old.items ++ run_before run []) }
+// Puts a run of text, if there is one, behind the tokens at the first places, and gives the number of places after it.
+fn put_run(tokens: &mut Vec<Token>, places: usize, run: Option<String>) -> usize
+    requires { with_run places run ≤ length tokens.old.items }
+    ensures places { result ≡ with_run places run }
+    ensures front { map plain_token (take result tokens.new.items) ≡ map plain_token (take places tokens.old.items) ++ run_before run [] }
+    ensures behind { (n : ℕ) → with_run places run ≤ n → drop n tokens.new.items ≡ drop n tokens.old.items }
+    ensures length { length tokens.new.items ≡ length tokens.old.items }
 {
     match run {
         Some(text) => {
-            tokens.push(Token::Text(text))?;
-            Ok(())
+            put(tokens, places, Token::Text(text));
+            places + 1
         }
-        None => Ok(()),
+        None => places,
     }
+}
+
+// Puts a token at a place.
+fn put(tokens: &mut Vec<Token>, place: usize, token: Token)
+    requires { place < length tokens.old.items }
+    ensures front { take (place + 1) tokens.new.items ≡ take place tokens.old.items ++ token ∷ [] }
+    ensures behind { (n : ℕ) → place < n → drop n tokens.new.items ≡ drop n tokens.old.items }
+    ensures length { length tokens.new.items ≡ length tokens.old.items }
+{
+    tokens[place] = token;
 }
