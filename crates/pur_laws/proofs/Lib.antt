@@ -1,0 +1,10 @@
+pub mod Truth
+pub mod Lists
+pub mod Places
+pub mod Options
+pub mod Sequences
+pub mod Texts
+pub mod Cases
+pub mod Ends
+pub mod Firsts
+pub mod Tests
