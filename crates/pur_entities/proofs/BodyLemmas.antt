@@ -1,5 +1,5 @@
 -- What stands between the `&` and the `;` of a reference, as bytes and as characters.
-use Rattle.std.proofs.Common.{◌≡◌, ℕ, ◌≤◌, Bool, true, false, List, [], ◌∷◌, ◌++◌, None, IsUtf8, refl, sym, ap, subst, ◌∙◌, arith, ⊎_elim}
+use Rattle.std.proofs.Common.{◌≡◌, ℕ, ◌≤◌, Bool, true, false, List, [], ◌∷◌, None, IsUtf8, refl, sym, ap, subst, ◌∙◌, arith, ⊎_elim}
 use Rattle.std.specs.Prelude.{◌==◌, ◌&&◌, not, Option, option_map, ◌≢◌}
 use Rattle.pur_entities.proofs.NumeralLemmas.{cut_off}
 use Rattle.std.specs.Char.{digit_value}
@@ -11,15 +11,7 @@ use Rattle.std.proofs.lemmas.Bool.Decides.{nat_tests}
 use Rattle.pur_entities.specs.Cuts.{is_plain}
 use Rattle.pur_entities.specs.Entities.{Entity, latin_1, special, greek, other_symbols, entities, character_in, named_character}
 use Rattle.pur_entities.specs.References.{is_digit, numeral, is_hexadecimal, number_written, number_meant}
-use Rattle.pur_entities.proofs.CutLemmas.{is_ascii, same_chars, chars_ascii}
-
-pub fails_append : (q : ℕ → Bool) (before behind : List ℕ) (c : ℕ) → q c ≡ false → list_all q (before ++ c ∷ behind) ≡ false
-fails_append q [] behind c fails = rw fails refl
-fails_append q (b ∷ before) behind c fails = by (q b) (fails_append q before behind c fails)
-  where
-    by : (first : Bool) → list_all q (before ++ c ∷ behind) ≡ false → (first && list_all q (before ++ c ∷ behind)) ≡ false
-    by true later = later
-    by false later = refl
+use Rattle.pur_laws.proofs.Texts.{chars_ascii, is_ascii, same_chars}
 
 -- what fails a weaker test fails a stronger one
 fails_too : (q p : ℕ → Bool) → ((c : ℕ) → q c ≡ false → p c ≡ false) → (text : List ℕ) → list_all q text ≡ false → list_all p text ≡ false

@@ -1,5 +1,4 @@
 pub mod BodyLemmas
-pub mod CutLemmas
 pub mod NumeralLemmas
 pub mod ReadingLemmas
 pub mod ReferenceLemmas

@@ -1,14 +1,14 @@
 -- Numbers that stop growing at the greatest of the code's type.
-use Rattle.std.proofs.Common.{◌≡◌, ℕ, suc, ◌+◌, ◌*◌, ◌<◌, ◌≤◌, Bool, true, false, List, [], ◌∷◌, length, drop, get_or, Some, None, min, filter, refl, sym, ap, ◌∙◌, arith, ⊎_elim, drop_of_length-le}
-use Rattle.std.specs.Prelude.{◌==◌, ◌&&◌, not, Option, if◌then◌else◌, option_map}
+use Rattle.std.proofs.Common.{◌≡◌, ℕ, suc, ◌+◌, ◌*◌, ◌<◌, ◌≤◌, true, false, List, [], ◌∷◌, length, drop, get_or, Some, None, min, filter, refl, sym, ap, ◌∙◌, arith, ⊎_elim, drop_of_length-le}
+use Rattle.std.specs.Prelude.{Option, if◌then◌else◌}
 use Rattle.std.specs.Char.{digit_value}
 use Rattle.std.specs.List.{list_all}
 use Rattle.std.specs.Str.Parse.{digits_value_after}
 use Rattle.std.proofs.Math.Seq.{drop-cons}
-use Rattle.std.proofs.lemmas.Bool.{cases_lt, cond-false, both_ways}
+use Rattle.std.proofs.lemmas.Bool.{cases_lt, cond-false}
 use Rattle.std.proofs.lemmas.Bool.Decides.{nat_tests}
 use Rattle.pur_text.specs.Characters.{is_allowed}
-use Rattle.pur_entities.specs.References.{is_digit, numeral}
+use Rattle.pur_entities.specs.References.{is_digit}
 
 abbrev pub greatest : ℕ
 greatest = 4294967295
@@ -60,34 +60,11 @@ digit_read_at radix n i b more text least within is digit more_is o e =
     let front : drop i text ≡ b ∷ drop (i + 1) text = drop-cons text i 0 within ∙ ap (λ c. c ∷ drop (suc i) text) (sym is) ∙ ap (λ k. b ∷ drop k text) up in
     ap (λ m. numeral_after radix m (drop (i + 1) text)) more_is ∙ digit_read radix n b (drop (i + 1) text) least digit ∙ ap (numeral_after radix n) (sym front) ∙ e
 
--- what is no digit
-pub no_digit_at : (radix n i b : ℕ) (text : List ℕ) → i < length text → b ≡ get_or text i 0 → radix ≤ digit_value b
-    → (o : Option ℕ) → numeral_after radix n (drop i text) ≡ o → None ≡ o
-no_digit_at radix n i b text within is large o e =
-    let front : drop i text ≡ b ∷ drop (suc i) text = drop-cons text i 0 within ∙ ap (λ c. c ∷ drop (suc i) text) (sym is) in
-    let fails : is_digit radix b ≡ false = grind (arith, nat_tests) in
-    let none : numeral_after radix n (b ∷ drop (suc i) text) ≡ None = rw fails refl in
-    sym none ∙ ap (numeral_after radix n) (sym front) ∙ e
-
 -- all digits are read
 pub digits_end : (radix n i : ℕ) (text : List ℕ) → n ≤ greatest → length text ≤ i → (o : Option ℕ) → numeral_after radix n (drop i text) ≡ o → Some n ≡ o
 digits_end radix n i text small past o e =
     let same : n ≡ cut_off n = omega arith in
     ap Some same ∙ ap (numeral_after radix n) (sym (drop_of_length-le text past)) ∙ e
-
--- the whole, by the definition
-pub numeral_whole : (radix : ℕ) (text : List ℕ) → 0 < length text → numeral_after radix 0 text ≡ option_map cut_off (numeral radix text)
-numeral_whole radix text some =
-    let nonempty : not (length text == 0) ≡ true = grind (arith, nat_tests) in
-    by (list_all (is_digit radix) text) (not (length text == 0)) nonempty
-  where
-    v : ℕ
-    v = digits_value_after radix 0 text
-
-    by : (digits other : Bool) → other ≡ true → (if digits then Some (cut_off v) else None) ≡ option_map cut_off (if digits && other then Some v else None)
-    by true true is = refl
-    by true false is = absurd (both_ways _ refl is)
-    by false other is = refl
 
 -- a number that is cut off is no allowed character's
 pub allowed_cut_off : (n : ℕ) → filter is_allowed (cut_off n ∷ []) ≡ filter is_allowed (n ∷ [])

@@ -3,6 +3,7 @@ use Rattle.std.proofs.Common.{◌≡◌, ℕ, ◌≤◌, true, List, [], ◌∷�
 use Rattle.std.specs.Prelude.{Option, option_map, IsTrue}
 use Rattle.std.proofs.lemmas.Option.{none-some, same_Some}
 use Rattle.std.proofs.lemmas.Str.{chars-append, chars-nil}
+use Rattle.pur_laws.proofs.Lists.{all-fails, all-weaker}
 use Rattle.pur_entities.proofs.NumeralLemmas.{cut_off, allowed_cut_off}
 use Rattle.std.specs.List.{list_all}
 use Rattle.std.specs.Option.{option_map_or}
@@ -11,9 +12,9 @@ use Rattle.std.proofs.lemmas.Bool.Decides.{nat_tests}
 use Rattle.pur_text.specs.Characters.{is_allowed}
 use Rattle.pur_entities.specs.Cuts.{is_plain, is_inside, IsCutOff, HasNoBody}
 use Rattle.pur_entities.specs.References.{number_meant, before_semicolon, character_piece, reference_piece, piece_with, ampersand_piece, decoded}
-use Rattle.pur_entities.proofs.CutLemmas.{text_passes, chars_around}
-use Rattle.pur_entities.proofs.BodyLemmas.{fails_append, no_semicolon, nothing_meant, passes_plain}
-use Rattle.pur_entities.proofs.ReferenceLemmas.{semicolon_found, semicolon_missed, semicolon_behind, passes_more, inside_semicolon, decoded-ampersand, decoded-reference, decoded-plain, decoded-same}
+use Rattle.pur_laws.proofs.Texts.{chars_around, text_passes}
+use Rattle.pur_entities.proofs.BodyLemmas.{no_semicolon, nothing_meant, passes_plain}
+use Rattle.pur_entities.proofs.ReferenceLemmas.{semicolon_found, semicolon_missed, semicolon_behind, inside_semicolon, decoded-ampersand, decoded-reference, decoded-plain, decoded-same}
 
 nothing_meant_piece : (body : List ℕ) → number_meant body ≡ None → piece_with body ≡ character_piece 0x26
 nothing_meant_piece body e = ap (λ o. option_map_or (reference_piece body) o (character_piece 0x26)) e
@@ -26,16 +27,16 @@ no_reference body text all e =
 -- there is no body
 no_body_cut : (before behind : List ℕ) → list_all is_inside before ≡ true → ampersand_piece (before ++ 0x26 ∷ behind) ≡ character_piece 0x26
 no_body_cut before behind inside =
-    ap (λ o. option_map_or piece_with o (character_piece 0x26)) (semicolon_behind before behind (passes_more is_inside no_semicolon inside_semicolon before inside))
+    ap (λ o. option_map_or piece_with o (character_piece 0x26)) (semicolon_behind before behind (all-weaker is_inside no_semicolon inside_semicolon before inside))
     ∙ by (before_semicolon behind)
   where
     by : (o : Option (List ℕ)) → option_map_or piece_with (option_map (λ body. before ++ 0x26 ∷ body) o) (character_piece 0x26) ≡ character_piece 0x26
     by None = refl
-    by (Some body) = nothing_meant_piece (before ++ 0x26 ∷ body) (nothing_meant is_plain passes_plain (before ++ 0x26 ∷ body) (fails_append is_plain before body 0x26 refl))
+    by (Some body) = nothing_meant_piece (before ++ 0x26 ∷ body) (nothing_meant is_plain passes_plain (before ++ 0x26 ∷ body) (all-fails is_plain before body 0x26 refl))
 
 no_body_whole : (text : List ℕ) → list_all is_inside text ≡ true → ampersand_piece text ≡ character_piece 0x26
 no_body_whole text inside =
-    ap (λ o. option_map_or piece_with o (character_piece 0x26)) (semicolon_missed text (passes_more is_inside no_semicolon inside_semicolon text inside))
+    ap (λ o. option_map_or piece_with o (character_piece 0x26)) (semicolon_missed text (all-weaker is_inside no_semicolon inside_semicolon text inside))
 
 wide_inside : (c : ℕ) → 128 ≤ c → is_inside c ≡ true
 wide_inside c high = grind (arith, nat_tests)
@@ -58,7 +59,7 @@ module _ (text body behind : List ℕ) (is_body : IsUtf8 body) (is_behind : IsUt
   parts_chars = ap chars parts ∙ chars_around body behind 0x3B is_body is_behind (lit< tt)
 
   body_ends : list_all no_semicolon (chars body) ≡ true
-  body_ends = passes_more is_inside no_semicolon inside_semicolon (chars body) (text_passes is_inside wide_inside body is_body inside)
+  body_ends = all-weaker is_inside no_semicolon inside_semicolon (chars body) (text_passes is_inside wide_inside body is_body inside)
 
   pub reference_refused : None ≡ option_map cut_off (number_meant (chars body)) → decoded (0x26 ∷ chars text) ≡ 0x26 ∷ decoded (chars text)
   reference_refused none = by (number_meant (chars body)) refl none

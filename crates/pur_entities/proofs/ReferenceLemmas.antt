@@ -1,5 +1,5 @@
 -- How a text with references is read from its front, and what that gives.
-use Rattle.std.proofs.Common.{◌≡◌, ℕ, zero, suc, ◌+◌, Bool, true, false, List, [], ◌∷◌, ◌++◌, length, drop, filter, Some, None, codes, refl, sym, ap, subst, ◌∙◌, arith, ⊎_elim, append_assoc, append-nil}
+use Rattle.std.proofs.Common.{◌≡◌, ℕ, zero, suc, ◌+◌, true, false, List, [], ◌∷◌, ◌++◌, length, drop, filter, Some, None, codes, refl, sym, ap, subst, ◌∙◌, arith, ⊎_elim, append_assoc, append-nil}
 use Rattle.std.specs.Prelude.{◌==◌, not, Option, option_map}
 use Rattle.std.proofs.lemmas.Option.{none-some, same_Some}
 use Rattle.std.specs.List.{list_all}
@@ -49,12 +49,6 @@ semicolon_behind (c ∷ before) behind all =
 
 pub inside_semicolon : (c : ℕ) → is_inside c ≡ true → no_semicolon c ≡ true
 inside_semicolon c is = grind (arith, nat_tests)
-
-pub passes_more : (p q : ℕ → Bool) → ((c : ℕ) → p c ≡ true → q c ≡ true) → (text : List ℕ) → list_all p text ≡ true → list_all q text ≡ true
-passes_more p q more [] all = refl
-passes_more p q more (c ∷ text) all =
-    let both = and_parts _ _ all in
-    and_from _ _ (more c both.0) (passes_more p q more text both.1)
 
 -- skipping is dropping
 skipped : (n : ℕ) (text : List ℕ) → decoded_behind n text ≡ decoded (drop n text)

@@ -1,5 +1,5 @@
 //! The named characters of XHTML 1.0.
-ghost use Rattle.std.specs.Prelude.{◌≡◌, map, IsTrue};
+ghost use Rattle.std.specs.Prelude.{◌≡◌, map, Some, IfSome, IsTrue};
 ghost use Rattle.std.specs.Str.{chars};
 ghost use Rattle.pur_entities.specs.Entities.{named_character};
 ghost use Rattle.pur_entities.specs.Tables.{is_rising, is_right, is_whole};
@@ -266,7 +266,24 @@ static ENTITIES: [(&str, char); 253] = [
 pub fn lookup(name: &str) -> Option<char>
     ensures { result ≡ named_character (chars name.now) }
 {
-    find(&ENTITIES, name)
+    match frequent(name.as_bytes()) {
+        Some(character) => Some(character),
+        None => find(&ENTITIES, name),
+    }
+}
+
+// The character of a name that most references have, so that these need no search in the table.
+fn frequent(name: &[u8]) -> Option<char>
+    ensures { IfSome result (λ character. named_character name.now ≡ Some character) }
+{
+    match name {
+        b"amp" => Some('&'),
+        b"lt" => Some('<'),
+        b"gt" => Some('>'),
+        b"quot" => Some('"'),
+        b"nbsp" => Some('\u{A0}'),
+        _ => None,
+    }
 }
 
 /// The character of the row with this name.

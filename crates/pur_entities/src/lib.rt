@@ -10,4 +10,4 @@ pub use entities::lookup;
 pub use laws::{
     decoded_is_allowed, escaped_is_decoded, named_is_allowed, plain_is_kept, reference_is_read,
 };
-pub use references::decode;
+pub use references::{decode, decode_onto};

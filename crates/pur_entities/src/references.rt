@@ -23,13 +23,23 @@ pub fn decode(alloc: Global, text: &str) -> Result<String, AllocError>
     ensures text { IfOk result (λ output. chars (string_bytes output) ≡ decoded (chars text.now)) }
 {
     let mut output = String::new(alloc);
+    decode_onto(&mut output, text)?;
+    Ok(output)
+}
+
+/// Puts a text with its references read behind another, as `decode` reads them.
+///
+/// The error is want of memory; nothing is said of the other text then.
+pub fn decode_onto(output: &mut String, text: &str) -> Result<(), AllocError>
+    ensures { OnOk result (chars (string_bytes output.new) ≡ chars (string_bytes output.old) ++ decoded (chars text.now)) }
+{
     let mut rest = text;
     'decoding: while let Some((run, behind)) = cut_at_ampersand(rest) {
         output.push_str(run)?;
-        rest = push_piece(&mut output, behind)?;
+        rest = push_piece(output, behind)?;
     }
     output.push_str(rest)?;
-    Ok(output)
+    Ok(())
 }
 
 /// The text before the first `&`, and the text behind it.

@@ -1,45 +1,13 @@
 -- Letters, and lists of them.
-use Rattle.std.proofs.Common.{◌≡◌, List, [], ◌∷◌, ◌++◌, refl, ap, ◌∙◌, Bool, true, false, ◌&&◌, ◌||◌, not}
+use Rattle.std.proofs.Common.{◌≡◌, List, [], ◌∷◌, ◌++◌, refl, ap, ◌∙◌, Bool, true, false, ◌||◌}
 use Rattle.std.specs.Bool.{Decides}
 use Rattle.std.specs.List.{list_any}
 use Rattle.std.proofs.lemmas.List.Folds.{list_any-append}
+use Rattle.std.proofs.lemmas.Bool.{and_from, and_parts, or_left, or_parts, or_right}
 use Rattle.pur_names.proofs.ElementLaws.{same_element-Decides}
 use Rattle.pur_modules.specs.declared.kinds.Child.{Child}
 use Rattle.pur_modules.specs.declared.kinds.Child.TheVariants.{Text, Elem}
 use Rattle.pur_models.specs.Languages.{all_among, has_letter, same_child}
-
--- a conjunction holds where both sides do
-pub both : {a b : Bool} → a ≡ true → b ≡ true → (a && b) ≡ true
-both p q = rw p q
-
-pub left_of : (a b : Bool) → (a && b) ≡ true → a ≡ true
-left_of true b h = refl
-left_of false b h = h
-
-pub right_of : (a b : Bool) → (a && b) ≡ true → b ≡ true
-right_of true b h = h
-right_of false b h = absurd (cc)
-
-pub false_of : (b : Bool) → not b ≡ true → b ≡ false
-false_of true h = absurd (cc)
-false_of false h = refl
-
--- a disjunction holds where a side does
-pub or_left : (a b : Bool) → a ≡ true → (a || b) ≡ true
-or_left true b h = refl
-or_left false b h = absurd (cc)
-
-pub or_right : (a b : Bool) → b ≡ true → (a || b) ≡ true
-or_right true b h = refl
-or_right false b h = h
-
-pub neither_left : (a b : Bool) → (a || b) ≡ false → a ≡ false
-neither_left true b h = h
-neither_left false b h = refl
-
-pub neither_right : (a b : Bool) → (a || b) ≡ false → b ≡ false
-neither_right true b h = absurd (cc)
-neither_right false b h = h
 
 -- the test for the same letter decides that
 pub same_child-Decides : (a b : Child) → Decides (same_child a b) (a ≡ b)
@@ -64,27 +32,25 @@ has_letter-right a b c h = list_any-append (same_child c) a b ∙ or_right (has_
 pub all_among-left : (a b word : List Child) → all_among a word ≡ true → all_among (a ++ b) word ≡ true
 all_among-left a b [] h = refl
 all_among-left a b (c ∷ word) h =
-    both (has_letter-left a b c (left_of (has_letter a c) (all_among a word) h))
-    (all_among-left a b word (right_of (has_letter a c) (all_among a word) h))
+    and_from _ _ (has_letter-left a b c (and_parts (has_letter a c) (all_among a word) h).0) (all_among-left a b word (and_parts (has_letter a c) (all_among a word) h).1)
 
 pub all_among-right : (a b word : List Child) → all_among b word ≡ true → all_among (a ++ b) word ≡ true
 all_among-right a b [] h = refl
 all_among-right a b (c ∷ word) h =
-    both (has_letter-right a b c (left_of (has_letter b c) (all_among b word) h))
-    (all_among-right a b word (right_of (has_letter b c) (all_among b word) h))
+    and_from _ _ (has_letter-right a b c (and_parts (has_letter b c) (all_among b word) h).0) (all_among-right a b word (and_parts (has_letter b c) (all_among b word) h).1)
 
 -- a letter is in at most one of two lists that have none in common
 pub apart : (letters others : List Child) (c : Child) → list_any (has_letter others) letters ≡ false
     → has_letter letters c ≡ true → has_letter others c ≡ false
 apart [] others c none here = absurd (cc)
 apart (d ∷ letters) others c none here =
-    go (same_child c d) refl (apart letters others c (neither_right (has_letter others d) _ none))
+    go (same_child c d) refl (apart letters others c (or_parts (has_letter others d) _ none).1)
   where
     go : (b : Bool) → same_child c d ≡ b → (has_letter letters c ≡ true → has_letter others c ≡ false)
         → has_letter others c ≡ false
     go true same more =
         let e : c ≡ d = (same_child-Decides c d).0 same in
-        ap (has_letter others) e ∙ neither_left (has_letter others d) (list_any (has_letter others) letters) none
+        ap (has_letter others) e ∙ (or_parts (has_letter others d) (list_any (has_letter others) letters) none).0
     go false other more =
         let there : (false || has_letter letters c) ≡ true = rw other at here in
         more there

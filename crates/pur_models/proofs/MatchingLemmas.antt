@@ -5,6 +5,7 @@ use Rattle.std.specs.declared.vec.Vec.{Vec}
 use Rattle.std.specs.declared.alloc.Global.{Global}
 use Rattle.std.proofs.lemmas.Bool.Decides.{nat_tests}
 use Rattle.std.proofs.lemmas.List.{at_drop_all, drop_more, length-drop}
+use Rattle.std.proofs.lemmas.Bool.{and_parts}
 use Rattle.pur_modules.specs.declared.kinds.Child.{Child}
 use Rattle.pur_modules.specs.Expressions as plain
 use Rattle.pur_models.specs.declared.expressions.Step.{Step}
@@ -12,7 +13,6 @@ use Rattle.pur_models.specs.Images.{step_of, way_of}
 use Rattle.pur_models.specs.Languages.{IsInLanguage, IsInWay, first_way, has_disjoint_steps, later_way}
 use Rattle.pur_models.specs.Runs.{longest_run}
 use Rattle.pur_models.proofs.CuttingLemmas.{is_cut}
-use Rattle.pur_models.proofs.LetterLemmas.{left_of, right_of}
 
 -- a step whose longest run is too short ends the cutting
 pub cut_stops : (way : List Step) (i : ℕ) (step : Step) (word : List Child) → i < length way → step ≡ get_or way i step
@@ -41,9 +41,9 @@ pub disjoint_at : (ways : List (Vec Step Global)) (i : ℕ) (way : Vec Step Glob
     → list_all has_disjoint_steps (map way_of ways) ≡ true → has_disjoint_steps (way_of way) ≡ true
 disjoint_at [] i way lt is all = absurd (omega arith)
 disjoint_at (first ∷ ways) zero way lt is all =
-    ap (λ w. has_disjoint_steps (way_of w)) is ∙ left_of _ (list_all has_disjoint_steps (map way_of ways)) all
+    ap (λ w. has_disjoint_steps (way_of w)) is ∙ (and_parts _ (list_all has_disjoint_steps (map way_of ways)) all).0
 disjoint_at (first ∷ ways) (suc i) way lt is all =
-    disjoint_at ways i way (omega arith) is (right_of (has_disjoint_steps (way_of first)) _ all)
+    disjoint_at ways i way (omega arith) is (and_parts (has_disjoint_steps (way_of first)) _ all).1
 
 -- a word of one of the ways is a word of the expression
 pub IsInLanguage-at : (ways : List (Vec Step Global)) (i : ℕ) (way : Vec Step Global) (word : List Child)

@@ -1,6 +1,5 @@
 -- Comparing two children is the test for the same letter.
-use Rattle.std.proofs.Common.{◌≡◌, List, [], ◌∷◌, refl, ap, sym, Bool, ◌||◌, rules}
-use Rattle.std.specs.List.{list_any}
+use Rattle.std.proofs.Common.{◌≡◌, refl, sym, rules}
 use Rattle.std.proofs.lemmas.Bool.Decides.{same_from_decides}
 use denote.Enum.Bare.{same_true, sameb, true_same}
 use Rattle.pur_names.specs.Elements.{same_element}
@@ -23,8 +22,3 @@ same_children Text Text = refl
 same_children Text (Elem b) = refl
 same_children (Elem a) Text = refl
 same_children (Elem a) (Elem b) = same_elements a b
-
--- two tests that agree find the same
-pub any_same : (p q : Child → Bool) (letters : List Child) → ((c : Child) → p c ≡ q c) → list_any p letters ≡ list_any q letters
-any_same p q [] same = refl
-any_same p q (c ∷ letters) same = rw (same c) (ap (λ b. q c || b) (any_same p q letters same))

@@ -2,15 +2,15 @@
 use Rattle.std.proofs.Common.{◌≡◌, ◌≤◌, List, [], ◌∷◌, ◌++◌, refl, ap, sym, ◌∙◌, Bool, true, false, ◌&&◌, ◌||◌, nat_le, arith}
 use Rattle.std.specs.List.{list_all}
 use Rattle.std.proofs.lemmas.List.Folds.{list_any-append}
+use Rattle.std.proofs.lemmas.Bool.{and_from, and_parts, leb-true, or_left}
+use Rattle.pur_modules.proofs.KindLaws.{each_kind}
 use Rattle.pur_modules.specs.declared.kinds.Child.{Child}
 use Rattle.pur_modules.specs.declared.kinds.Content.{Content}
-use Rattle.pur_modules.specs.declared.kinds.Content.TheVariants.{Inline, Flow, Block, AddressMix, Items, Pairs, TableParts, Rows, Cells, Cols, Nothing}
 use Rattle.pur_modules.specs.declared.kinds.Doctype.{Doctype}
 use Rattle.pur_modules.specs.Expressions.{Step, expression_of, is_letter, letters_of}
 use Rattle.pur_models.specs.Languages.{IsInLanguage, IsInWay, IsRun, first_way, has_letter, later_way, letters_in, no_step, same_child, step_first}
 use Rattle.pur_models.specs.Laws.{StandsInAWord}
-use Rattle.pur_models.proofs.CuttingLemmas.{from_at_most}
-use Rattle.pur_models.proofs.LetterLemmas.{both, has_letter-right, left_of, or_left, right_of, same_child-refl}
+use Rattle.pur_models.proofs.LetterLemmas.{has_letter-right, same_child-refl}
 use Rattle.pur_models.proofs.TableLemmas.{is_letter-has_letter}
 
 abbrev pub has_some : List Child → Bool
@@ -25,13 +25,13 @@ fillable_by_one : (step : Step) → is_fillable step ≡ true → step.least ≤
 fillable_by_one step h = go (nat_le step.least 0) refl
   where
     go : (b : Bool) → nat_le step.least 0 ≡ b → step.least ≤ 1
-    go true none = let few : step.least ≤ 0 = from_at_most step.least 0 none in omega arith
+    go true none = let few : step.least ≤ 0 = leb-true step.least 0 none in omega arith
     go false some =
         let left : (false || (nat_le step.least 1 && has_some step.letters)) ≡ true = rw some at h in
-        from_at_most step.least 1 (left_of (nat_le step.least 1) (has_some step.letters) left)
+        leb-true step.least 1 (and_parts (nat_le step.least 1) (has_some step.letters) left).0
 
 one_letter : (step : Step) (c : Child) → has_letter step.letters c ≡ true → step.least ≤ 1 → IsRun step (c ∷ [])
-one_letter step c own few = record { letters = both own refl; least = omega arith; most = λ one. omega arith }
+one_letter step c own few = record { letters = and_from _ _ own refl; least = omega arith; most = λ one. omega arith }
 
 record SomeRun (step : Step) : Type 0 where
   run : List Child
@@ -49,11 +49,11 @@ some_run step h = go (nat_le step.least 0) refl
 
     go : (b : Bool) → nat_le step.least 0 ≡ b → SomeRun step
     go true none =
-        let few : step.least ≤ 0 = from_at_most step.least 0 none in
+        let few : step.least ≤ 0 = leb-true step.least 0 none in
         record { run = []; is_run = record { letters = refl; least = omega arith; most = λ one. omega arith } }
     go false some =
         let left : (false || (nat_le step.least 1 && has_some step.letters)) ≡ true = rw some at h in
-        pick step.letters refl (right_of (nat_le step.least 1) (has_some step.letters) left)
+        pick step.letters refl (and_parts (nat_le step.least 1) (has_some step.letters) left).1
 
 record SomeWord (steps : List Step) : Type 0 where
   word : List Child
@@ -62,8 +62,8 @@ record SomeWord (steps : List Step) : Type 0 where
 some_word : (steps : List Step) → list_all is_fillable steps ≡ true → SomeWord steps
 some_word [] h = record { word = []; in_way = no_step }
 some_word (step ∷ steps) h =
-    let r = some_run step (left_of (is_fillable step) (list_all is_fillable steps) h) in
-    let more = some_word steps (right_of (is_fillable step) (list_all is_fillable steps) h) in
+    let r = some_run step (and_parts (is_fillable step) (list_all is_fillable steps) h).0 in
+    let more = some_word steps (and_parts (is_fillable step) (list_all is_fillable steps) h).1 in
     record { word = r.run ++ more.word; in_way = step_first r.is_run more.in_way }
 
 record WordWith (steps : List Step) (c : Child) : Type 0 where
@@ -74,20 +74,20 @@ record WordWith (steps : List Step) (c : Child) : Type 0 where
 word_with : (steps : List Step) (c : Child) → list_all is_fillable steps ≡ true → has_letter (letters_in steps) c ≡ true → WordWith steps c
 word_with [] c h here = absurd (cc)
 word_with (step ∷ steps) c h here =
-    go (has_letter step.letters c) refl (word_with steps c (right_of (is_fillable step) (list_all is_fillable steps) h))
+    go (has_letter step.letters c) refl (word_with steps c (and_parts (is_fillable step) (list_all is_fillable steps) h).1)
   where
     go : (b : Bool) → has_letter step.letters c ≡ b → (has_letter (letters_in steps) c ≡ true → WordWith steps c)
         → WordWith (step ∷ steps) c
     go true own more =
-        let rest = some_word steps (right_of (is_fillable step) (list_all is_fillable steps) h) in
-        let few : step.least ≤ 1 = fillable_by_one step (left_of (is_fillable step) (list_all is_fillable steps) h) in
+        let rest = some_word steps (and_parts (is_fillable step) (list_all is_fillable steps) h).1 in
+        let few : step.least ≤ 1 = fillable_by_one step (and_parts (is_fillable step) (list_all is_fillable steps) h).0 in
         record {
           word = (c ∷ []) ++ rest.word;
           in_way = step_first (one_letter step c own few) rest.in_way;
           has = or_left (same_child c c) (has_letter rest.word c) (same_child-refl c);
         }
     go false other more =
-        let r = some_run step (left_of (is_fillable step) (list_all is_fillable steps) h) in
+        let r = some_run step (and_parts (is_fillable step) (list_all is_fillable steps) h).0 in
         let either : (has_letter step.letters c || has_letter (letters_in steps) c) ≡ true =
         sym (list_any-append (same_child c) step.letters (letters_in steps)) ∙ here in
         let behind : (false || has_letter (letters_in steps) c) ≡ true = rw other at either in
@@ -108,12 +108,12 @@ word_of_with : (ways : List (List Step)) (c : Child) → list_all (λ way. list_
 word_of_with [] c h here = absurd (cc)
 word_of_with (way ∷ ways) c h here =
     go (has_letter (letters_in way) c) refl
-    (word_of_with ways c (right_of (list_all is_fillable way) (list_all (λ way. list_all is_fillable way) ways) h))
+    (word_of_with ways c (and_parts (list_all is_fillable way) (list_all (λ way. list_all is_fillable way) ways) h).1)
   where
     go : (b : Bool) → has_letter (letters_in way) c ≡ b → (has_letter (letters_of ways) c ≡ true → WordOfWith ways c)
         → WordOfWith (way ∷ ways) c
     go true own more =
-        let w = word_with way c (left_of (list_all is_fillable way) (list_all (λ way. list_all is_fillable way) ways) h) own in
+        let w = word_with way c (and_parts (list_all is_fillable way) (list_all (λ way. list_all is_fillable way) ways) h).0 own in
         record { word = w.word; in_language = first_way w.in_way; has = w.has }
     go false other more =
         let either : (has_letter (letters_in way) c || has_letter (letters_of ways) c) ≡ true =
@@ -124,17 +124,7 @@ word_of_with (way ∷ ways) c h here =
 
 expression_is_fillable : (doctype : Doctype) (content : Content)
     → list_all (λ way. list_all is_fillable way) (expression_of doctype content) ≡ true
-expression_is_fillable doctype Inline = refl
-expression_is_fillable doctype Flow = refl
-expression_is_fillable doctype Block = refl
-expression_is_fillable doctype AddressMix = refl
-expression_is_fillable doctype Items = refl
-expression_is_fillable doctype Pairs = refl
-expression_is_fillable doctype TableParts = refl
-expression_is_fillable doctype Rows = refl
-expression_is_fillable doctype Cells = refl
-expression_is_fillable doctype Cols = refl
-expression_is_fillable doctype Nothing = refl
+expression_is_fillable doctype content = each_kind (λ d k. list_all (λ way. list_all is_fillable way) (expression_of d k)) refl doctype content
 
 pub allowed_letters_stand : (doctype : Doctype) (content : Content) (letter : Child) → is_letter doctype content letter ≡ true
     → StandsInAWord doctype content letter

@@ -1,6 +1,7 @@
 -- The tables of children are the letters of the expressions.
-use Rattle.std.proofs.Common.{◌≡◌, List, [], ◌∷◌, refl, ap, sym, ◌∙◌, Bool, true, false, ◌&&◌, ◌||◌}
+use Rattle.std.proofs.Common.{◌≡◌, List, [], ◌∷◌, refl, ap, sym, ◌∙◌, Bool, true, false, ◌||◌}
 use Rattle.std.specs.List.{list_all, list_any}
+use Rattle.pur_laws.proofs.Lists.{all-same}
 use Rattle.pur_names.specs.Elements.{same_element}
 use Rattle.pur_names.proofs.ElementLaws.{same_element-Decides}
 use Rattle.pur_names.specs.declared.elements.Element.{Element}
@@ -55,13 +56,7 @@ is_letter-has_letter doctype content (Elem e) =
     among-without_repeats [] (elements_among (letters_of (expression_of doctype content))) e refl
     ∙ has_letter-Elem (letters_of (expression_of doctype content)) e
 
--- two tests that agree pass the same lists
-all_same : (p q : Child → Bool) (word : List Child) → ((c : Child) → p c ≡ q c) → list_all p word ≡ list_all q word
-all_same p q [] same = refl
-all_same p q (c ∷ word) same = rw (same c) (ap (λ b. q c && b) (all_same p q word same))
-
 pub all_allowed : (doctype : Doctype) (content : Content) (word : List Child)
     → list_all (is_letter doctype content) word ≡ all_among (letters_of (expression_of doctype content)) word
 all_allowed doctype content word =
-    all_same (is_letter doctype content) (has_letter (letters_of (expression_of doctype content))) word
-    (is_letter-has_letter doctype content)
+    all-same (is_letter doctype content) (has_letter (letters_of (expression_of doctype content))) (is_letter-has_letter doctype content) word

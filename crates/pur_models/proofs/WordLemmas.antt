@@ -1,6 +1,9 @@
 -- Words of the content kinds.
 use Rattle.std.proofs.Common.{◌≡◌, ◌<◌, ◌⊎◌, inl, inr, List, [], ◌∷◌, ◌++◌, append-nil, refl, ap, sym, ◌∙◌, subst, true, length, arith}
 use Rattle.std.specs.List.{list_all, list_any}
+use mathlib.Core.Bool.{beq}
+use Rattle.pur_laws.proofs.Truth.{same_truth}
+use Rattle.pur_modules.proofs.KindLaws.{each_kind}
 use Rattle.pur_names.specs.declared.elements.Element.{Element}
 use Rattle.pur_names.specs.declared.elements.Element.TheVariants.{Col, Colgroup, Dd, Del, Dt, Ins, Li, P, Tbody, Td, Th, Tr}
 use Rattle.pur_modules.specs.declared.kinds.Child.{Child}
@@ -95,17 +98,8 @@ some_letters doctype Nothing word t full h = absurd (cc)
 -- the empty word is cut up in the kinds that may be empty alone
 empty_cut : (doctype : Doctype) (content : Content)
     → list_any (λ way. is_cut way []) (expression_of doctype content) ≡ may_be_empty content
-empty_cut doctype Inline = refl
-empty_cut doctype Flow = refl
-empty_cut doctype Block = refl
-empty_cut doctype AddressMix = refl
-empty_cut doctype Items = refl
-empty_cut doctype Pairs = refl
-empty_cut doctype TableParts = refl
-empty_cut doctype Rows = refl
-empty_cut doctype Cells = refl
-empty_cut doctype Cols = refl
-empty_cut doctype Nothing = refl
+empty_cut doctype content =
+    same_truth _ _ (each_kind (λ d k. beq (list_any (λ way. is_cut way []) (expression_of d k)) (may_be_empty k)) refl doctype content)
 
 pub empty_if : (doctype : Doctype) (content : Content) → Language doctype content [] → may_be_empty content ≡ true
 empty_if doctype content w = sym (empty_cut doctype content) ∙ cut-IsInLanguage w (AreDisjoint-expression_of doctype content)

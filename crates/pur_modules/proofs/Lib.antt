@@ -1,1 +1,4 @@
+pub mod KindLaws
+pub mod AmongLaws
+pub mod NameLaws
 pub mod EmptyElements

@@ -6,8 +6,8 @@ ghost use Rattle.pur_modules.specs.Groups.{is_among, inline, block, misc};
 use crate::kinds::Doctype;
 use pur_names::Element;
 
-// Whether the doctype has the element among its inline ones.
-pub(crate) fn is_inline(doctype: Doctype, element: Element) -> bool
+/// Whether the doctype has the element among its inline ones.
+pub fn is_inline(doctype: Doctype, element: Element) -> bool
     ensures { result ≡ is_among (inline doctype) element }
 {
     match element {
@@ -44,8 +44,8 @@ pub(crate) fn is_inline(doctype: Doctype, element: Element) -> bool
     }
 }
 
-// Whether the doctype has the element among its blocks.
-pub(crate) fn is_block(doctype: Doctype, element: Element) -> bool
+/// Whether the doctype has the element among its blocks.
+pub fn is_block(doctype: Doctype, element: Element) -> bool
     ensures { result ≡ is_among (block doctype) element }
 {
     match element {
@@ -70,8 +70,8 @@ pub(crate) fn is_block(doctype: Doctype, element: Element) -> bool
     }
 }
 
-// Whether the element marks an edit.
-pub(crate) fn is_edit(element: Element) -> bool
+/// Whether the element marks an edit.
+pub fn is_edit(element: Element) -> bool
     ensures { result ≡ is_among misc element }
 {
     matches!(element, Element::Ins | Element::Del)

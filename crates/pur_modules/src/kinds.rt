@@ -55,8 +55,8 @@ pub enum Child {
 
 /// The content that an element holds, below a parent that holds `parent`.
 ///
-/// The parent counts for `ins` and `del` alone: they hold what may stand in their place, inline content or flow. In
-/// Strict an element that only Transitional has holds what it holds there.
+/// The parent counts for `ins` and `del` alone: in inline content they hold inline content, and elsewhere flow. In Strict
+/// an element that only Transitional has holds what it holds there.
 ///
 /// Source: XHTML 1.0, the element declarations of the two DTDs; for `ins` and `del` HTML Purifier's rule.
 #[tactic(auto, unfolding(crate::specs::Contents::content_held))]

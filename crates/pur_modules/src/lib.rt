@@ -14,6 +14,7 @@ mod wrappers;
 
 pub use attribute_lists::{attributes, required};
 pub use exclusions::excludes;
+pub use groups::{is_block, is_edit, is_inline};
 pub use kinds::{Child, Content, Doctype, content_of, declares, is_declared_empty};
 pub use tables::{allows, children, text_allowed};
 pub use wrappers::implied;

@@ -1,7 +1,7 @@
 -- A property whose name has so many characters is among those of that length.
 use Rattle.std.proofs.Common.{◌≡◌, ℕ, zero, suc, ◌≤◌, Bool, true, false, List, [], ◌∷◌, Option, Some, None, IfNone, filter, cond, length, nat_le, ◌&&◌, slice_get, sym, ap, subst, ◌∙◌, arith}
 use Rattle.std.proofs.lemmas.Bool.Decides.{nat_tests}
-use Rattle.pur_names.proofs.Found.{some_same}
+use Rattle.std.proofs.lemmas.Option.{same_Some}
 use Rattle.pur_names.proofs.StylePropLaws.{all_props-rank}
 use Rattle.pur_names.specs.Properties.{prop_name, prop_rank, all_props, props_by_length, props_from_length, NoneHas}
 use Rattle.pur_names.specs.declared.properties.StyleProp.{StyleProp}
@@ -17,7 +17,7 @@ passed_at : (name : List ℕ) (test : StyleProp → Bool) (ps : List StyleProp) 
 passed_at name test [] zero p none at passes = absurd cc
 passed_at name test [] (suc i) p none at passes = absurd cc
 passed_at name test (q ∷ qs) zero p none at passes =
-    let same : q ≡ p = some_same q p at in
+    let same : q ≡ p = same_Some q p at in
     subst (λ (r : StyleProp). prop_name r ≡ name → ⊥) same
     ((kept name (test q) q (filter test qs) none).0 (subst (λ (r : StyleProp). test r ≡ true) (sym same) passes))
 passed_at name test (q ∷ qs) (suc i) p none at passes =

@@ -1,3 +1,4 @@
+pub mod Variants
 pub mod Found
 pub mod ElementLaws
 pub mod AttrLaws

@@ -1,7 +1,7 @@
 //! The elements of XHTML 1.0 that the filter knows.
 
-ghost use Rattle.std.specs.Prelude.{◌≡◌, Some, IfSome, IfNone};
-ghost use Rattle.pur_names.specs.Elements.{element_name, element_named};
+ghost use Rattle.std.specs.Prelude.{◌≡◌, ◌<◌, length, Some, IfSome, IfNone};
+ghost use Rattle.pur_names.specs.Elements.{all_elements, element_name, element_named, element_rank, same_element};
 ghost use Rattle.pur_names.specs.declared.elements.Element.{Element};
 
 /// An element of XHTML 1.0: the 53 of the Strict profile and the 7 that Transitional adds.
@@ -83,6 +83,21 @@ impl Element {
         ensures inverse { (e : Element) → element_name e ≡ name.now → result ≡ Some e }
     {
         spelled(name.as_bytes())
+    }
+
+    /// Whether two are the same one.
+    pub fn is_same(self, other: Element) -> bool
+        ensures { result ≡ same_element self other }
+    {
+        self == other
+    }
+
+    /// The element's number, counted from 0 in the order of their names: its place in a table with one for each.
+    pub fn rank(self) -> usize
+        ensures number { result ≡ element_rank self }
+        ensures within { result < length all_elements }
+    {
+        self as usize
     }
 
     /// The element's name in lower case, as a tag spells it.

@@ -1,9 +1,9 @@
 -- How cleaning goes over bytes and characters from the front.
-use Rattle.std.proofs.Common.{◌≡◌, ℕ, zero, suc, ◌-◌, ◌<◌, ◌≤◌, Bool, true, false, List, [], ◌∷◌, ◌++◌, length, drop, filter, slice_index, None, IsUtf8, encode_utf8, encode_utf8_all, refl, sym, ap, subst, ◌∙◌, arith, ⊎_elim, append_assoc, append-nil, length-append, length-drop, drop_at}
+use Rattle.std.proofs.Common.{◌≡◌, ℕ, zero, suc, ◌-◌, ◌<◌, ◌≤◌, true, false, List, [], ◌∷◌, ◌++◌, length, drop, filter, slice_index, None, IsUtf8, encode_utf8, encode_utf8_all, refl, sym, ap, ◌∙◌, arith, ⊎_elim, append_assoc, append-nil, length-append, length-drop, drop_at}
 use Rattle.std.specs.Prelude.{◌==◌, Option}
 use Rattle.std.specs.List.{list_all}
 use Rattle.std.specs.Str.{chars}
-use Rattle.std.proofs.lemmas.Bool.{cases_Bool, cases_lt, cond-true, cond-false, and_parts}
+use Rattle.std.proofs.lemmas.Bool.{cases_lt, cond-true, cond-false, and_parts}
 use Rattle.std.proofs.lemmas.Bool.Decides.{nat_tests}
 use Rattle.std.proofs.lemmas.List.Elements.{filter-append}
 use Rattle.std.proofs.lemmas.Str.{chars-nil, chars-append, chars_past_char, chars-encodes, byte_from_char, char_from_byte, utf8_valid_len-IsUtf8, length-encode, len_utf8_bounds}
@@ -15,6 +15,7 @@ use Rattle.std.proofs.lemmas.List.{nil_from_length}
 use Rattle.bstr.proofs.lemmas.LossyLemmas.{utf8_valid_len-cases, utf8_invalid_len-decoded}
 use Rattle.bstr.proofs.lemmas.UnicodeLemmas.{none_after_valid}
 use Rattle.bstr.proofs.lemmas.PieceLemmas.{continuation-alone, tail-continues, piece-bounds}
+use Rattle.pur_laws.proofs.Lists.{all-kept}
 use Rattle.pur_text.specs.Characters.{is_allowed}
 use Rattle.pur_text.specs.Cleaning.{character_list, bytes_behind_first, chars_behind, chars_of, line_feed_for, with_line_feeds, cleaned}
 
@@ -212,12 +213,6 @@ chunk_joined text valid more bytes rest whole is_text more_is read e =
     ap (λ t. chars t ++ chars_of rest) more_is ∙ ap (λ t. t ++ chars_of rest) (chars-append text valid is_text)
     ∙ append_assoc (chars text) (chars valid) (chars_of rest) ∙ ap (λ t. chars text ++ t) (sym read) ∙ e
 
--- a character was written
-pub chars_push : (text : List ℕ) (c : ℕ) → IsUtf8 text → scalar c ≡ true → chars (text ++ encode_utf8 c) ≡ chars text ++ c ∷ []
-chars_push text c is_text is_char =
-    chars-append text (encode_utf8 c) is_text
-    ∙ ap (λ t. chars text ++ t) (ap chars (sym (append-nil (encode_utf8 c))) ∙ chars-encodes (c ∷ []) (rw is_char refl))
-
 -- what stands for the first character was written
 pub first_written : (before after text behind : List ℕ) (c : ℕ) (kept : List ℕ) → IsUtf8 text → text ≡ encode_utf8 c ++ behind
     → kept ≡ filter is_allowed (line_feed_for c (chars behind)) → after ≡ before ++ kept
@@ -249,22 +244,10 @@ all_copied clean run more whole is_clean is_run more_is allowed e =
 
 -- ---- laws of cleaning
 
--- what passes a filter passes its test
-all_kept : (p : ℕ → Bool) (xs : List ℕ) → list_all p (filter p xs) ≡ true
-all_kept p [] = refl
-all_kept p (x ∷ xs) = ⊎_elim
-    (λ (yes : p x ≡ true).
-    let e : filter p (x ∷ xs) ≡ x ∷ filter p xs = cond-true _ _ _ yes in
-    subst (λ l. list_all p l ≡ true) (sym e) (rw yes (all_kept p xs)))
-    (λ (no : p x ≡ false).
-    let e : filter p (x ∷ xs) ≡ filter p xs = cond-false _ _ _ no in
-    subst (λ l. list_all p l ≡ true) (sym e) (all_kept p xs))
-    (cases_Bool (p x))
-
 -- what bytes are cleaned to has only allowed characters
 pub cleaned_allowed : (bytes : List ℕ) → list_all is_allowed (cleaned bytes) ≡ true
 unfolding cleaned
-cleaned_allowed bytes = all_kept is_allowed (with_line_feeds (chars_of bytes))
+cleaned_allowed bytes = all-kept is_allowed (with_line_feeds (chars_of bytes))
 
 -- an allowed character is a character
 pub allowed_scalar : (c : ℕ) → is_allowed c ≡ true → scalar c ≡ true

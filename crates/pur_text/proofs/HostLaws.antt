@@ -12,15 +12,8 @@ use Rattle.std.proofs.lemmas.List.Folds.{list_all-append}
 use Rattle.std.proofs.lemmas.Slice.Eq.{bytes_eq-Decides}
 use Rattle.bstr.specs.Find.{first_of}
 use Rattle.bstr.specs.Find.{matches_from, match_len, occurs_at}
+use Rattle.pur_laws.proofs.Lists.{all-weaker}
 use Rattle.pur_text.specs.Hosts.{is_digit, is_hex_digit, is_label_byte, is_label, is_octet, is_group, is_ip4_address, is_host_name, is_ip6_address, is_ip6_literal, is_whole_ip6_address, is_gapped_ip6_address, between_dots, between_colons, side_pieces, group_count, gap_place, is_host, is_name_byte, is_ip6_byte, is_bracketed}
-
--- a test that follows from another
-weaken : {X : Type 0} (f g : X → Bool) → ((x : X) → f x ≡ true → g x ≡ true) → (xs : List X) → list_all f xs ≡ true → list_all g xs ≡ true
-weaken f g follows [] all = refl
-weaken f g follows (x ∷ xs) all =
-    let both = and_parts _ _ all in
-    let first : g x ≡ true = follows x both.0 in
-    rw first (weaken f g follows xs both.1)
 
 module _ (p q r : ℕ → Bool) where
   -- the pieces of a text with one more in front of the first
@@ -56,7 +49,7 @@ label_in_name b is = rw is refl
 
 pub name_bytes : (text : List ℕ) → is_host_name text ≡ true → list_all is_name_byte text ≡ true
 name_bytes text is = split_all (λ b. b == 0x2E) is_label_byte is_name_byte dot_in_name label_in_name text
-    (weaken is_label (list_all is_label_byte) (λ label e. (and_parts _ _ e).1) (between_dots text) is)
+    (all-weaker is_label (list_all is_label_byte) (λ label e. (and_parts _ _ e).1) (between_dots text) is)
 
 dot_in_address : (b : ℕ) → (b == 0x2E) ≡ true → is_ip6_byte b ≡ true
 dot_in_address b is = grind (arith, nat_tests)
@@ -75,10 +68,10 @@ octet_digits piece is = (and_parts _ _ (and_parts _ _ (and_parts _ _ is).0).0).0
 
 ip4_bytes : (text : List ℕ) → is_ip4_address text ≡ true → list_all is_ip6_byte text ≡ true
 ip4_bytes text is = split_all (λ b. b == 0x2E) is_digit is_ip6_byte dot_in_address digit_in_address text
-    (weaken is_octet (list_all is_digit) octet_digits (between_dots text) (and_parts _ _ is).1)
+    (all-weaker is_octet (list_all is_digit) octet_digits (between_dots text) (and_parts _ _ is).1)
 
 group_bytes : (piece : List ℕ) → is_group piece ≡ true → list_all is_ip6_byte piece ≡ true
-group_bytes piece is = weaken is_hex_digit is_ip6_byte hex_in_address piece (and_parts _ _ is).1
+group_bytes piece is = all-weaker is_hex_digit is_ip6_byte hex_in_address piece (and_parts _ _ is).1
 
 groups_bytes : (text : List ℕ) → list_all (list_all is_ip6_byte) (between_colons text) ≡ true → list_all is_ip6_byte text ≡ true
 groups_bytes text all = split_all (λ b. b == 0x3A) is_ip6_byte is_ip6_byte colon_in_address (λ b is. is) text all
@@ -162,7 +155,7 @@ gapped_bytes text k found is =
     let sides = and_parts _ _ is in
     let behind = tested_some _ (group_count (side_pieces (drop (k + 2) text))) sides.1 in
     let front : list_all is_ip6_byte (take k text) ≡ true =
-    side_bytes (take k text) (weaken is_group (list_all is_ip6_byte) group_bytes (side_pieces (take k text)) sides.0) in
+    side_bytes (take k text) (all-weaker is_group (list_all is_ip6_byte) group_bytes (side_pieces (take k text)) sides.0) in
     let back : list_all is_ip6_byte (drop (k + 2) text) ≡ true = side_bytes (drop (k + 2) text) (counted_bytes _ behind.0 behind.1) in
     ap (list_all is_ip6_byte) (gap_found text k found) ∙ list_all-append is_ip6_byte (take k text) (codes "::" ++ drop (k + 2) text)
     ∙ ap (λ b. b && list_all is_ip6_byte (drop (k + 2) text)) front ∙ back
@@ -234,10 +227,10 @@ lowered_all (b ∷ text) all =
 
 pub host_lowered : (text : List ℕ) → is_host text ≡ true → str_to_ascii_lowercase text ≡ text
 host_lowered text is = ⊎_elim
-    (λ (name : list_all is_name_byte text ≡ true). lowered_all text (weaken is_name_byte is_lowered name_lowered text name))
+    (λ (name : list_all is_name_byte text ≡ true). lowered_all text (all-weaker is_name_byte is_lowered name_lowered text name))
     (λ (literal : is_bracketed text ≡ true).
     let parts = and_parts _ _ literal in
     let ends = and_parts _ _ parts.0 in
     lowered_all text (bracketed_all is_lowered text (eqb-true _ _ ends.0) (eqb-true _ _ ends.1) refl refl
-    (weaken is_ip6_byte is_lowered address_lowered (take (length text - 2) (drop 1 text)) parts.1)))
+    (all-weaker is_ip6_byte is_lowered address_lowered (take (length text - 2) (drop 1 text)) parts.1)))
     (host_cases text is)

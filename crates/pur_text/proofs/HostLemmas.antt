@@ -1,39 +1,23 @@
 -- Texts cut at a byte, and what their pieces count.
-use Rattle.std.proofs.Common.{◌≡◌, ℕ, suc, ◌+◌, ◌<◌, ◌≤◌, Bool, true, false, cond, List, [], ◌∷◌, length, take, drop, Option, Some, None, refl, sym, ap, subst, ◌∙◌, arith, ⊎_elim, option_map}
-use Rattle.std.specs.Prelude.{◌==◌, ◌&&◌, nat_lt, count_by, if◌then◌else◌}
-use Rattle.std.specs.List.{list_all, position, position_or_len, slice_split, onto_first}
-use Rattle.std.proofs.lemmas.Bool.{cases_Bool, cond-true, cond-false, eq-eqb, ne_eqb}
-use Rattle.std.proofs.lemmas.Bool.Decides.{nat_tests}
+use Rattle.std.proofs.Common.{◌≡◌, ℕ, suc, ◌+◌, Bool, true, false, cond, List, [], ◌∷◌, length, take, drop, Option, Some, None, refl, sym, ap, subst, ◌∙◌, arith, option_map}
+use Rattle.std.specs.Prelude.{◌==◌, ◌&&◌, count_by, if◌then◌else◌}
+use Rattle.std.specs.List.{list_all, position, slice_split, onto_first}
+use Rattle.std.proofs.lemmas.Bool.{cond-true, cond-false, eq-eqb, ne_eqb}
 use Rattle.std.proofs.lemmas.List.Splits.{slice_split_first, slice_split_none, length-slice_split}
 use Rattle.std.proofs.lemmas.List.Sums.{fails_before_first}
+use Rattle.pur_laws.proofs.Places.{position-found, position-missed}
 use Rattle.pur_text.specs.Hosts.{is_group, is_octet, is_ip4_address, group_count, between_dots, between_colons, side_pieces}
 
 -- the pieces of a text that is cut at its first separator, and of one that has none
 pub split_found : (p : ℕ → Bool) (xs : List ℕ) (n : ℕ) → Some n ≡ position p xs → slice_split p xs ≡ take n xs ∷ slice_split p (drop (n + 1) xs)
 split_found p xs n is =
-    let k = position_or_len p xs in
-    ⊎_elim
-    (λ (yes : nat_lt k (length xs) ≡ true).
-    let within : k < length xs = grind (arith, nat_tests) in
-    let found : position p xs ≡ Some k = cond-true _ _ _ yes in
-    let same : k ≡ n = cc in
-    subst (λ m. slice_split p xs ≡ take m xs ∷ slice_split p (drop (m + 1) xs)) same (slice_split_first p xs 0 within))
-    (λ (no : nat_lt k (length xs) ≡ false).
-    let none : position p xs ≡ None = cond-false _ _ _ no in
-    cc)
-    (cases_Bool (nat_lt k (length xs)))
+    let found = position-found p xs n is in
+    subst (λ m. slice_split p xs ≡ take m xs ∷ slice_split p (drop (m + 1) xs)) found.0 (slice_split_first p xs 0 (omega arith))
 
 pub split_whole : (p : ℕ → Bool) (xs : List ℕ) → None ≡ position p xs → slice_split p xs ≡ xs ∷ []
 split_whole p xs is =
-    let k = position_or_len p xs in
-    ⊎_elim
-    (λ (yes : nat_lt k (length xs) ≡ true).
-    let found : position p xs ≡ Some k = cond-true _ _ _ yes in
-    cc)
-    (λ (no : nat_lt k (length xs) ≡ false).
-    let whole : length xs ≤ k = grind (arith, nat_tests) in
-    slice_split_none p xs (λ i d lt. fails_before_first p xs i d (omega arith)))
-    (cases_Bool (nat_lt k (length xs)))
+    let whole = position-missed p xs is in
+    slice_split_none p xs (λ i d lt. fails_before_first p xs i d (omega arith))
 
 -- what groups count to with one more in front
 abbrev pub counted_before : Bool → Option ℕ → Option ℕ

@@ -1,22 +1,18 @@
 -- White space at the ends of a text is the same as bytes and as characters.
-use Rattle.std.proofs.Common.{◌≡◌, ℕ, zero, suc, ◌+◌, ◌-◌, ◌/◌, ◌%◌, ◌<◌, ◌≤◌, true, false, List, [], ◌∷◌, ◌++◌, length, take, drop, IsUtf8, encode_utf8_all, refl, sym, ap, subst, ◌∙◌, arith, ⊎_elim, length-append, take_all, append-nil}
+use Rattle.std.proofs.Common.{◌≡◌, ℕ, zero, suc, ◌+◌, ◌-◌, ◌/◌, ◌%◌, ◌≤◌, true, false, List, [], ◌∷◌, ◌++◌, length, take, drop, IsUtf8, encode_utf8_all, refl, sym, ap, subst, ◌∙◌, arith, ⊎_elim, length-append, take_all, append-nil}
 use Rattle.std.specs.Prelude.{reverse}
 use Rattle.std.specs.Char.{encode_utf8}
 use Rattle.std.specs.List.{prefix_len, suffix_len}
 use Rattle.std.specs.Str.{chars, IsCharBoundary}
-use Rattle.std.proofs.lemmas.Bool.{cases_Bool, cases_lt, cond-true, cond-false, and_parts, and_from}
+use Rattle.std.proofs.lemmas.Bool.{cases_Bool, cond-true, cond-false, and_parts, and_from}
 use Rattle.std.proofs.lemmas.Bool.Decides.{nat_tests}
 use Rattle.std.proofs.lemmas.List.{append_assoc, reverse-append, reverse-reverse, take-append-le}
 use Rattle.std.proofs.lemmas.List.Sums.{prefix_len-le-length}
 use Rattle.std.proofs.lemmas.Str.{chars-encodes, encodes-chars, scalars-chars, encodes-append, encode_ascii, IsCharBoundary-from_drop, IsCharBoundary-from_take}
 use lib.Utf8.{scalars}
-use lib.Dec.{ltb}
+use Rattle.pur_laws.proofs.Sequences.{by_length}
 use Rattle.pur_text.specs.Characters.{is_space}
 use Rattle.pur_text.specs.Trimming.{without_leading_space, without_trailing_space}
-
--- a term of the type given
-abbrev by : (A : Type 0) → A → A
-by A a = a
 
 -- ---- the first and the last byte of a character that isn't white space
 
@@ -34,59 +30,38 @@ wide_other : (b : ℕ) → 128 ≤ b → is_space b ≡ false
 wide_other b wide = grind (arith, nat_tests)
 
 other_bytes : (c : ℕ) → is_space c ≡ false → OtherBytes (encode_utf8 c)
-unfolding encode_utf8
-other_bytes c other = ⊎_elim
-    (λ (one : c < 128).
-    let e : encode_utf8 c ≡ c ∷ [] = encode_ascii c one in
-    record { first = c; behind = []; begins = e; first_other = other; front = []; last = c; ends = e; last_other = other })
-    (λ (more : 128 ≤ c).
-    let not_one : ltb c 128 ≡ false = grind (arith, nat_tests) in
-    let last_other : is_space (128 + c % 64) ≡ false = wide_other (128 + c % 64) (omega arith) in
-    ⊎_elim
-    (λ (two : c < 2048).
-    let e : encode_utf8 c ≡ (192 + c / 64) ∷ (128 + c % 64) ∷ [] = cond-false _ _ _ not_one ∙ cond-true _ _ _ (by (ltb c 2048 ≡ true) (grind (arith, nat_tests))) in
-    record {
+other_bytes c other = by_length OtherBytes c
+    (λ low. record { first = c; behind = []; begins = refl; first_other = other; front = []; last = c; ends = refl; last_other = other })
+    (λ from low. record {
       first = 192 + c / 64;
       behind = (128 + c % 64) ∷ [];
-      begins = e;
+      begins = refl;
       first_other = wide_other (192 + c / 64) (omega arith);
       front = (192 + c / 64) ∷ [];
       last = 128 + c % 64;
-      ends = e;
-      last_other = last_other;
+      ends = refl;
+      last_other = wide_other (128 + c % 64) (omega arith);
     })
-    (λ (wide : 2048 ≤ c).
-    let not_two : ltb c 2048 ≡ false = grind (arith, nat_tests) in
-    ⊎_elim
-    (λ (three : c < 65536).
-    let e : encode_utf8 c ≡ (224 + c / 4096) ∷ (128 + (c / 64) % 64) ∷ (128 + c % 64) ∷ [] =
-    cond-false _ _ _ not_one ∙ cond-false _ _ _ not_two ∙ cond-true _ _ _ (by (ltb c 65536 ≡ true) (grind (arith, nat_tests))) in
-    record {
+    (λ from low. record {
       first = 224 + c / 4096;
       behind = (128 + (c / 64) % 64) ∷ (128 + c % 64) ∷ [];
-      begins = e;
+      begins = refl;
       first_other = wide_other (224 + c / 4096) (omega arith);
       front = (224 + c / 4096) ∷ (128 + (c / 64) % 64) ∷ [];
       last = 128 + c % 64;
-      ends = e;
-      last_other = last_other;
+      ends = refl;
+      last_other = wide_other (128 + c % 64) (omega arith);
     })
-    (λ (four : 65536 ≤ c).
-    let e : encode_utf8 c ≡ (240 + c / 262144) ∷ (128 + (c / 4096) % 64) ∷ (128 + (c / 64) % 64) ∷ (128 + c % 64) ∷ [] =
-    cond-false _ _ _ not_one ∙ cond-false _ _ _ not_two ∙ cond-false _ _ _ (by (ltb c 65536 ≡ false) (grind (arith, nat_tests))) in
-    record {
+    (λ from. record {
       first = 240 + c / 262144;
       behind = (128 + (c / 4096) % 64) ∷ (128 + (c / 64) % 64) ∷ (128 + c % 64) ∷ [];
-      begins = e;
+      begins = refl;
       first_other = wide_other (240 + c / 262144) (omega arith);
       front = (240 + c / 262144) ∷ (128 + (c / 4096) % 64) ∷ (128 + (c / 64) % 64) ∷ [];
       last = 128 + c % 64;
-      ends = e;
-      last_other = last_other;
+      ends = refl;
+      last_other = wide_other (128 + c % 64) (omega arith);
     })
-    (cases_lt c 65536))
-    (cases_lt c 2048))
-    (cases_lt c 128)
 
 space_byte : (c : ℕ) → is_space c ≡ true → encode_utf8 c ≡ c ∷ []
 space_byte c space = encode_ascii c (grind (arith, nat_tests))
@@ -99,7 +74,9 @@ leading_space_goes c text space =
     ap (λ n. drop n (c ∷ text)) n
 
 leading_other_stays : (c : ℕ) (text : List ℕ) → is_space c ≡ false → without_leading_space (c ∷ text) ≡ c ∷ text
-leading_other_stays c text other = ap (λ n. drop n (c ∷ text)) (by (prefix_len is_space (c ∷ text) ≡ 0) (cond-false _ _ _ other))
+leading_other_stays c text other =
+    let n : prefix_len is_space (c ∷ text) ≡ 0 = cond-false _ _ _ other in
+    ap (λ n. drop n (c ∷ text)) n
 
 leading_same : (cs : List ℕ) → without_leading_space (encode_utf8_all cs) ≡ encode_utf8_all (without_leading_space cs)
 leading_same [] = refl

@@ -13,8 +13,8 @@ abbrev pub bytes_behind_first : Option ℕ → ℕ → ℕ
 bytes_behind_first None size = 0
 bytes_behind_first (Some c) size = size - 1
 
--- the characters of the bytes behind the first n: where a well-formed UTF-8 sequence (Unicode, Table 3-7) begins, it is
--- read, and otherwise one byte is dropped
+-- the characters of the bytes behind the first n: those of each well-formed UTF-8 sequence (Unicode, Table 3-7), from left to
+-- right; a byte with which none begins has no character
 unfoldable pub chars_behind : ℕ → List ℕ → List ℕ
 chars_behind n [] = []
 chars_behind (suc n) (b ∷ bytes) = chars_behind n bytes

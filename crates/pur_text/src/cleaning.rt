@@ -1,5 +1,6 @@
 //! From the bytes of an input to the text that the filter reads.
-ghost use Rattle.std.specs.Prelude.{◌≡◌, [], ◌∷◌, ◌++◌, ◌<◌, length, IfOk, OnOk, filter, string_bytes};
+ghost use Rattle.std.specs.Prelude.{◌≡◌, [], ◌∷◌, ◌++◌, ◌<◌, length, IfOk, OnOk, IfSome, filter, string_bytes};
+ghost use Rattle.std.specs.Cow.{cow_str_bytes};
 ghost use Rattle.std.specs.Str.{chars, IsUtf8};
 ghost use Rattle.pur_text.specs.Characters.{is_allowed};
 ghost use Rattle.pur_text.specs.Cleaning.{character_list, line_feed_for, chars_of, with_line_feeds, cleaned};
@@ -7,6 +8,7 @@ ghost use Rattle.pur_text.specs.Cleaning.{character_list, line_feed_for, chars_o
 use crate::characters::is_allowed;
 use crate::runs::run_end;
 use std::alloc::{AllocError, Global};
+use std::borrow::CowStr;
 
 /// The text of the bytes: their characters, read as UTF-8 (Unicode, Table 3-7), with LF for each line end CR LF or CR
 /// (XML 1.0, section 2.11), and without the characters that `is_allowed` refuses.
@@ -25,6 +27,36 @@ pub fn clean(alloc: Global, bytes: &[u8]) -> Result<String, AllocError>
             let text = read_text(alloc, bytes)?;
             clean_text(alloc, text.as_str())
         }
+    }
+}
+
+/// The text of the bytes as `clean` gives it, lent where nothing changes, so that no memory is taken.
+///
+/// Where a byte may begin what cleaning drops or changes, the text is made anew even if nothing does.
+/// The error is want of memory.
+pub fn clean_if_needed<'a>(alloc: Global, bytes: &'a [u8]) -> Result<CowStr<'a, Global>, AllocError>
+    ensures { IfOk result (λ text. chars (cow_str_bytes text) ≡ cleaned bytes.now) }
+{
+    match already_clean(bytes) {
+        Some(text) => Ok(CowStr::Borrowed(text)),
+        None => {
+            let text = clean(alloc, bytes)?;
+            Ok(CowStr::Owned(text))
+        }
+    }
+}
+
+/// The text of the bytes, where each of them stands for itself.
+fn already_clean(bytes: &[u8]) -> Option<&str>
+    ensures text { IfSome result (λ text. IsUtf8 text.now) }
+    ensures clean { IfSome result (λ text. chars text.now ≡ cleaned bytes.now) }
+{
+    match simdutf8::basic::from_utf8(bytes) {
+        Ok(text) => match run_end(text.as_bytes()) {
+            Some(_) => None,
+            None => Some(text),
+        },
+        Err(_) => None,
     }
 }
 

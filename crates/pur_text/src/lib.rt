@@ -11,7 +11,7 @@ mod runs;
 mod trimming;
 
 pub use characters::{is_allowed, is_space, lower_ascii};
-pub use cleaning::clean;
+pub use cleaning::{clean, clean_if_needed};
 pub use hosts::is_host;
 pub use laws::{
     allowed_is_cleaned, cleaned_is_allowed, cleaning_settles, host_is_lowered, host_is_plain,

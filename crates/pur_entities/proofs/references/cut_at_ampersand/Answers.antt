@@ -3,7 +3,8 @@ use Rattle.memchr.specs.Find.{is_byte}
 use Rattle.std.specs.List.{list_all}
 use Rattle.std.proofs.lemmas.Str.Pattern.{strip_prefix_char}
 use Rattle.pur_entities.specs.Cuts.{is_plain}
-use Rattle.pur_entities.proofs.CutLemmas.{none_before, none_at_all, begins_at, if_none}
+use Rattle.pur_laws.proofs.Options.{if_none}
+use Rattle.pur_laws.proofs.Places.{begins_at, none_at_all, none_before}
 use Rattle.pur_entities.proofs.references.cut_at_ampersand.Goals as goal
 
 pub returns-in_err-place-clause-none : goal.returns-in_err-place-clause-none

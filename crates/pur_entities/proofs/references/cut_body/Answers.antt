@@ -7,7 +7,8 @@ use Rattle.std.proofs.lemmas.Str.{IsUtf8-take, IsUtf8-drop, IsCharBoundary-befor
 use Rattle.std.specs.Str.{IsUtf8, IsCharBoundary}
 use Rattle.std.proofs.lemmas.Str.Pattern.{strip_prefix_char}
 use Rattle.pur_entities.specs.Cuts.{is_inside, IsCutOff}
-use Rattle.pur_entities.proofs.CutLemmas.{none_before, none_at_all, begins_at, cut_at, if_none}
+use Rattle.pur_laws.proofs.Options.{if_none}
+use Rattle.pur_laws.proofs.Places.{begins_at, cut_at, none_at_all, none_before}
 use Rattle.pur_entities.proofs.references.cut_body.Goals as goal
 
 pub returns-in_err-end-clause-none : goal.returns-in_err-end-clause-none

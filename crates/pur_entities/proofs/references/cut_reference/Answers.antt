@@ -1,5 +1,5 @@
 use Rattle.std.proofs.Common.{sym}
-use Rattle.pur_entities.proofs.CutLemmas.{if_none}
+use Rattle.pur_laws.proofs.Options.{if_none}
 use Rattle.pur_entities.proofs.ReadingLemmas.{no_body, reference_refused, reference_read}
 use Rattle.pur_entities.proofs.references.cut_reference.Goals as goal
 

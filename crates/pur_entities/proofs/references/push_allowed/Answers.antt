@@ -4,7 +4,7 @@ use Rattle.std.specs.Str.{chars}
 use Rattle.std.proofs.lemmas.Bool.{cond-true}
 use Rattle.std.proofs.lemmas.Str.{IsUtf8-string_bytes}
 use Rattle.pur_text.specs.Characters.{is_allowed}
-use Rattle.pur_entities.proofs.CutLemmas.{chars_push}
+use Rattle.pur_laws.proofs.Texts.{chars_push}
 use Rattle.pur_entities.proofs.references.push_allowed.Goals as goal
 
 pub returns-in_ok-push : goal.returns-in_ok-push

@@ -1,7 +1,7 @@
 use Rattle.std.proofs.Common.{◌∙◌, ap, string_bytes, refl}
 use Rattle.std.specs.Str.{chars}
 use Rattle.std.proofs.lemmas.Str.{IsUtf8-string_bytes}
-use Rattle.pur_entities.proofs.CutLemmas.{chars_push}
+use Rattle.pur_laws.proofs.Texts.{chars_push}
 use Rattle.pur_entities.proofs.ReadingLemmas.{ampersand_written}
 use Rattle.pur_entities.proofs.references.push_piece.Goals as goal
 

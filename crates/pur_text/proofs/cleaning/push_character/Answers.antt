@@ -1,7 +1,7 @@
 use Rattle.std.proofs.Common.{◌∙◌, ap, string_bytes}
 use Rattle.std.specs.Str.{chars}
 use Rattle.std.proofs.lemmas.Str.{IsUtf8-string_bytes}
-use Rattle.pur_text.proofs.CleaningLemmas.{chars_push}
+use Rattle.pur_laws.proofs.Texts.{chars_push}
 use Rattle.pur_text.proofs.cleaning.push_character.Goals as goal
 
 pub returns : goal.returns
