@@ -265,10 +265,3 @@ pub first_of_names-push : (pairs : List Attribute) (pair : Attribute) → first_
 first_of_names-push [] pair = refl
 first_of_names-push (first ∷ pairs) pair =
     ap (λ (l : List Attribute). first ∷ without l first.0) (first_of_names-push pairs pair) ∙ front_kept first (first_of_names pairs) pair
-
--- names that are distinct are all kept
-pub first_of_names-distinct : (pairs : List Attribute) → is_distinct pairs ≡ true → first_of_names pairs ≡ pairs
-first_of_names-distinct [] distinct = refl
-first_of_names-distinct (pair ∷ pairs) distinct =
-    ap (λ (l : List Attribute). pair ∷ without l pair.0) (first_of_names-distinct pairs (rest_is_distinct pair pairs distinct))
-    ∙ ap (λ (l : List Attribute). pair ∷ l) (without-absent pairs pair.0 (first_is_new pair pairs distinct))

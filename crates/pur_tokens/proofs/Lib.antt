@@ -2,3 +2,4 @@ pub mod TextLaws
 pub mod AttributeLaws
 pub mod StorageLaws
 pub mod IndexLaws
+pub mod JoiningLaws

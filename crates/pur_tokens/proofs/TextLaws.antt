@@ -1,19 +1,14 @@
 -- Texts are the same where their characters are, and where their bytes are.
-use Rattle.std.proofs.Common.{◌≡◌, ℕ, Bool, true, false, List, String, string_bytes, refl, sym, ap, ◌∙◌}
-use Rattle.std.specs.Prelude.{encode_utf8_all, length}
+use Rattle.std.proofs.Common.{◌∙◌, ◌++◌, ◌≡◌, ℕ, true, List, String, string_bytes, refl, sym, ap}
+use Rattle.std.specs.Prelude.{length}
 use Rattle.std.specs.Str.{chars, bytes_eq, IsUtf8}
 use Rattle.std.specs.declared.alloc.Global.{Global}
-use Rattle.std.proofs.lemmas.Str.{encodes-chars, IsUtf8-string_bytes}
+use Rattle.std.proofs.lemmas.Str.{IsUtf8-string_bytes, chars-append, encodes-chars}
 use Rattle.std.proofs.lemmas.Slice.Eq.{bytes_eq-Decides}
+use Rattle.pur_laws.proofs.Texts.{bytes_eq-chars}
+use Rattle.pur_laws.proofs.Truth.{true_together}
 use Rattle.pur_tokens.specs.Texts.{text_of, byte_count}
 use Rattle.pur_tokens.specs.Attributes.{is_same_text}
-
--- two tests that are true together are equal
-pub true_together : (x y : Bool) → (x ≡ true → y ≡ true) → (y ≡ true → x ≡ true) → x ≡ y
-true_together true true f g = refl
-true_together true false f g = sym (f refl)
-true_together false true f g = g refl
-true_together false false f g = refl
 
 pub same_text : (a b : List ℕ) → is_same_text a b ≡ true → a ≡ b
 same_text a b e = (bytes_eq-Decides a b).0 e
@@ -27,14 +22,6 @@ is_same_text-sym a b =
     (λ e. (bytes_eq-Decides b a).1 (sym (same_text a b e)))
     (λ e. (bytes_eq-Decides a b).1 (sym (same_text b a e)))
 
--- a comparison of bytes is one of characters
-pub bytes_eq-chars : (a b : List ℕ) → IsUtf8 a → IsUtf8 b → bytes_eq a b ≡ is_same_text (chars a) (chars b)
-bytes_eq-chars a b ua ub =
-    true_together (bytes_eq a b) (is_same_text (chars a) (chars b))
-    (λ e. (bytes_eq-Decides (chars a) (chars b)).1 (ap chars (same_text a b e)))
-    (λ e. (bytes_eq-Decides a b).1
-    (sym (encodes-chars a ua) ∙ ap encode_utf8_all (same_text (chars a) (chars b) e) ∙ encodes-chars b ub))
-
 -- a name that is looked for, against a stored one
 pub bytes_eq-stored : (a : List ℕ) → IsUtf8 a → (s : String Global) → bytes_eq a (string_bytes s) ≡ is_same_text (chars a) (text_of s)
 bytes_eq-stored a ua s = bytes_eq-chars a (string_bytes s) ua (IsUtf8-string_bytes s)
@@ -42,3 +29,7 @@ bytes_eq-stored a ua s = bytes_eq-chars a (string_bytes s) ua (IsUtf8-string_byt
 -- the characters of bytes take as many bytes
 pub byte_count-chars : (bytes : List ℕ) → IsUtf8 bytes → byte_count (chars bytes) ≡ length bytes
 byte_count-chars bytes valid = ap length (encodes-chars bytes valid)
+
+-- a text with bytes behind it
+pub pushed : (s new : String Global) (bytes : List ℕ) → string_bytes new ≡ string_bytes s ++ bytes → text_of new ≡ text_of s ++ chars bytes
+pushed s new bytes e = ap chars e ∙ chars-append (string_bytes s) bytes (IsUtf8-string_bytes s)

@@ -4,3 +4,5 @@ pub mod Places
 pub mod Pairs
 pub mod Storage
 pub mod Tokens
+pub mod Joining
+pub mod Characters

@@ -1,15 +1,9 @@
 -- Tokens as plain values: texts are lists of characters, attributes a list of pairs.
-use Rattle.std.specs.Prelude.{ℕ, List}
+use Rattle.std.specs.Prelude.{ℕ, Bool, false, List, length, nat_lt}
 use Rattle.pur_tokens.specs.Texts.{text_of}
 use Rattle.pur_tokens.specs.Attributes.{Attribute}
-use Rattle.pur_tokens.specs.declared.tokens.Tag.{Tag}
 use Rattle.pur_tokens.specs.declared.tokens.Token.{Token}
 use Rattle.pur_tokens.specs.declared.tokens.Token.TheVariants.{Text, Start, End, Empty, Hidden, Comment}
-
--- a name with its attributes
-pub record PlainTag : Type 0 where
-  pub name : List ℕ
-  pub attrs : List Attribute
 
 -- a text; a start tag, an end tag, an empty tag; a script or a style sheet; a comment (HTML 4.01, section 3.2)
 pub data PlainToken : Type 0 where
@@ -20,9 +14,14 @@ pub data PlainToken : Type 0 where
   hidden_token : List ℕ → List ℕ → PlainToken
   comment_token : List ℕ → PlainToken
 
--- what a tag says
-abbrev pub plain_tag : Tag → PlainTag
-plain_tag tag = record { name = text_of tag.name; attrs = tag.attrs }
+-- a text that isn't empty, or a tag whose name passes the test: no comment, and no hidden content
+abbrev pub shows_only : (List ℕ → Bool) → PlainToken → Bool
+shows_only test (text_token text) = nat_lt 0 (length text)
+shows_only test (start_token name attrs) = test name
+shows_only test (end_token name) = test name
+shows_only test (empty_token name attrs) = test name
+shows_only test (hidden_token name body) = false
+shows_only test (comment_token text) = false
 
 -- what a token says
 abbrev pub plain_token : Token → PlainToken

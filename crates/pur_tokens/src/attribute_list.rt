@@ -1,12 +1,14 @@
 //! The attributes of a tag.
 
-ghost use Rattle.std.specs.Prelude.{◌≡◌, ◌^◌, ◌-◌, ◌<◌, ◌↔◌, min, [], not, length, slice_get, Some, IsTrue, OnOk, OnErr, IfOk};
+ghost use Rattle.std.specs.Prelude.{◌≡◌, ◌^◌, ◌-◌, ◌<◌, ◌↔◌, min, [], map, not, length, slice_get, Some, IsTrue, OnOk, OnErr, IfOk};
 ghost use Rattle.std.specs.Option.{option_map};
 ghost use Rattle.std.specs.Str.{chars};
 ghost use Rattle.pur_tokens.specs.Texts.{text_of};
+ghost use Rattle.pur_tokens.specs.Pairs.{attribute_of};
 ghost use Rattle.pur_tokens.specs.Attributes.{names_of, values_of, has_name, is_distinct, value_of, with_value, with_new, without, weight_of};
 
-use crate::pairs_in_order::PairsInOrder;
+use crate::stored_pair::Pair;
+use crate::stored_pairs::StoredPairs;
 use std::alloc::{AllocError, Global};
 use std::marker::Model;
 
@@ -18,19 +20,19 @@ use std::marker::Model;
 /// Source: XML 1.0, section 3.1.
 #[derive(Drop)]
 pub struct AttrList {
-    pairs: PairsInOrder,
+    pairs: StoredPairs,
 }
 
 impl Model for AttrList {
     ghost use Rattle.std.specs.Prelude.{List, IsTrue};
     ghost use Rattle.pur_tokens.specs.Attributes.{Attribute, is_distinct};
-    ghost use Rattle.pur_tokens.specs.Storage.{attributes_of};
+    ghost use Rattle.pur_tokens.specs.Storage.{stored_of};
 
     ghost Value = { List Attribute };
 
-    ghost view = { λ list. attributes_of list.pairs };
+    ghost view = { λ list. stored_of list.pairs };
 
-    ghost invariant = { λ list. IsTrue (is_distinct (attributes_of list.pairs)) };
+    ghost invariant = { λ list. IsTrue (is_distinct (stored_of list.pairs)) };
 }
 
 impl AttrList {
@@ -39,7 +41,7 @@ impl AttrList {
         ensures { result ≡ [] }
     {
         AttrList {
-            pairs: PairsInOrder::few(alloc),
+            pairs: StoredPairs::none(alloc),
         }
     }
 
@@ -137,6 +139,17 @@ impl AttrList {
             }
             None => false,
         }
+    }
+
+    /// All attributes in order, taken out at once, for a list that is made anew. Fails only where memory is wanting; an
+    /// empty list takes none.
+    pub fn into_pairs(self) -> Result<Vec<Pair>, AllocError>
+        ensures pairs { IfOk result (λ pairs. map attribute_of pairs.items ≡ self) }
+        ensures distinct { IsTrue (is_distinct self) }
+    {
+        let AttrList { pairs } = self;
+        let pairs = pairs.into_pairs()?;
+        Ok(pairs)
     }
 
     /// An equal list. Fails only where memory is wanting.

@@ -3,12 +3,13 @@
 //! The index is an ordered map and no hash table: the hash of std's tables has a fixed seed, so that a stranger could
 //! choose names that all fall together, and each search would go along all of them.
 
-ghost use Rattle.std.specs.Prelude.{◌≡◌, ◌<◌, ◌++◌, [], ◌∷◌, true, false, List, ℕ, length, remove, slice_get, Some, OnOk, OnErr, IfSome, IfNone, IsTrue};
+ghost use Rattle.std.specs.Prelude.{◌≡◌, ◌<◌, ◌++◌, [], ◌∷◌, true, false, List, ℕ, length, map, remove, slice_get, Some, OnOk, OnErr, IfSome, IfNone, IsTrue};
 ghost use Rattle.std.specs.Option.{option_map};
 ghost use Rattle.std.specs.Str.{chars};
 ghost use Rattle.std.specs.BTreeMap.{get_by_text};
 ghost use Rattle.pur_tokens.specs.Texts.{text_of};
 ghost use Rattle.pur_tokens.specs.Attributes.{names_of, values_of, has_name, is_distinct};
+ghost use Rattle.pur_tokens.specs.Pairs.{attribute_of};
 ghost use Rattle.pur_tokens.specs.Places.{with_value_at, IsPlaceOf, moved_down};
 
 use crate::stored_pair::Pair;
@@ -99,6 +100,14 @@ impl IndexedPairs {
         let pair = self.pairs.remove(at);
         self.places.remove(pair.name.as_str());
         move_down(&mut self.places, at);
+    }
+
+    /// The pairs, without their index.
+    pub(crate) fn into_pairs(self) -> Vec<Pair>
+        ensures { map attribute_of result.items ≡ self }
+    {
+        let IndexedPairs { pairs, .. } = self;
+        pairs
     }
 
     /// Appends a pair whose name is new.

@@ -1,16 +1,22 @@
 //! Tokens of HTML and the attribute lists of their tags. An attribute list is seen as the list of its pairs of name and
-//! value, in the order of their coming, with no two names equal; each of its calls is exact on that list, and none does
-//! work that grows with the square of the number of attributes.
+//! value, in the order of their coming, with no two names equal, and each of its calls is exact on that list. A long list is
+//! indexed, so that a tag with many names doesn't cost a search along all of them for each.
 
 #![tactic(auto)]
 
 mod attribute_list;
 mod indexed_pairs;
+mod joiner;
+mod laws;
 mod pairs_in_order;
 mod stored_pair;
+mod stored_pairs;
 #[cfg(test)]
 mod tests;
 mod tokens;
 
 pub use attribute_list::AttrList;
+pub use joiner::Joiner;
+pub use laws::{joined_have_no_neighbours, joining_keeps_texts, joining_settles};
+pub use stored_pair::Pair;
 pub use tokens::{Tag, Token};

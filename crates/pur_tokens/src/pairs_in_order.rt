@@ -1,15 +1,15 @@
 //! Where an attribute list keeps its pairs: a short list without an index, or a long one with an index of its names.
 //!
-//! Nearly all tags have none or one or a few attributes. A `SmallVec` with one place inside needs no allocation of its
-//! own for one pair, and makes the whole no larger than the long form needs to be; with more places inside, each tag
-//! would carry room for pairs that it doesn't have. A search along a few names is faster than a look-up. But a stranger
-//! can write a tag with more than a hundred thousand names, where a search along all of them for each of them would
-//! take quadratic time. So the seventeenth pair moves all of them into the long form.
-
-ghost use Rattle.std.specs.Prelude.{◌≡◌, ◌<◌, ◌++◌, [], ◌∷◌, false, length, remove, slice_get, Some, OnOk, OnErr, IfOk, IfSome, IfNone, IsTrue};
+//! Nearly all tags that have attributes have one or two, and a `SmallVec` with two places inside needs no allocation of its
+//! own for them. With one place a second pair takes a tenth more time; with four the pairs are no faster, and a list in a tree
+//! holds twice the memory. A search along a few names is faster than a look-up. But a stranger can write a tag with more
+//! than a hundred thousand names, where a search along all of them for each of them would take quadratic time. So the
+//! seventeenth pair moves all of them into the long form.
+ghost use Rattle.std.specs.Prelude.{◌≡◌, ◌<◌, ◌++◌, [], ◌∷◌, false, length, map, remove, slice_get, Some, OnOk, OnErr, IfOk, IfSome, IfNone, IsTrue};
 ghost use Rattle.std.specs.Str.{chars};
 ghost use Rattle.pur_tokens.specs.Texts.{text_of};
 ghost use Rattle.pur_tokens.specs.Attributes.{names_of, values_of, has_name, is_distinct};
+ghost use Rattle.pur_tokens.specs.Pairs.{attribute_of};
 ghost use Rattle.pur_tokens.specs.Places.{with_value_at, IsPlaceOf};
 ghost use Rattle.pur_tokens.specs.Storage.{attributes_of};
 
@@ -24,7 +24,7 @@ const FEW: usize = 16;
 /// Pairs in the order in which they were put, few or many.
 #[derive(Drop)]
 pub(crate) enum PairsInOrder {
-    Few(SmallVec<Pair, 1>),
+    Few(SmallVec<Pair, 2>),
     Many(IndexedPairs),
 }
 
@@ -157,6 +157,19 @@ impl PairsInOrder {
             }
         }
         Ok(())
+    }
+
+    /// The pairs, in order. Takes memory where they stand inside.
+    pub(crate) fn into_pairs(self) -> Result<Vec<Pair>, AllocError>
+        ensures { IfOk result (λ pairs. map attribute_of pairs.items ≡ attributes_of self) }
+    {
+        match self {
+            PairsInOrder::Few(few) => {
+                let pairs = few.into_vec()?;
+                Ok(pairs)
+            }
+            PairsInOrder::Many(many) => Ok(many.into_pairs()),
+        }
     }
 
     /// A copy in the same form.

@@ -6,11 +6,13 @@ ghost use Rattle.std.specs.Str.{bytes_eq};
 use std::alloc::Global;
 use std::default::MadeWith;
 
-/// A name and its value.
+/// An attribute: a name and its value.
 #[derive(Drop)]
-pub(crate) struct Pair {
-    pub(crate) name: String,
-    pub(crate) value: String,
+pub struct Pair {
+    /// The name.
+    pub name: String,
+    /// The value.
+    pub value: String,
 }
 
 // What an unused place of a `SmallVec` holds.

@@ -2,6 +2,7 @@
 
 use crate::{AttrList, Tag, Token};
 use std::alloc::{AllocError, Global};
+use std::mem::size_of;
 
 // The list of pairs such as `a=1 b=2`, put one after another.
 fn list_of(alloc: Global, text: &str) -> Result<AttrList, AllocError> {
@@ -120,6 +121,18 @@ fn tokens_carry_their_texts(rt: HostRuntime) -> Result<(), AllocError> {
             assert_eq!(rt; tag.attrs.get("alt"), Some("A"));
         }
         _ => assert!(rt; false, "an empty tag stays one"),
+    }
+    Ok(())
+}
+
+#[test]
+fn a_list_is_two_words_wide_and_gives_its_pairs(rt: HostRuntime) -> Result<(), AllocError> {
+    assert_eq!(rt; size_of::<AttrList>(), 16);
+    let pairs = list_of(rt.alloc(), "a=1 b=2")?.into_pairs()?;
+    assert_eq!(rt; pairs.len(), 2);
+    for (at, pair) in pairs.into_iter().enumerate() {
+        let name = if at == 0 { "a" } else { "b" };
+        assert_eq!(rt; pair.name.as_str(), name);
     }
     Ok(())
 }

@@ -28,7 +28,8 @@ pub enum Token {
     Hidden {
         /// `script` or `style`.
         name: String,
-        /// What stands between the start tag and the end tag.
+        /// What stands behind the start tag, up to the mark that begins its end tag; up to the end of the text, where no
+        /// such mark follows.
         body: String,
     },
     /// A comment, a declaration or a processing instruction.

@@ -1,6 +1,6 @@
 use Rattle.std.proofs.Common.{sym, ◌∙◌}
 use Rattle.std.specs.Str.{chars}
-use Rattle.pur_tokens.specs.Storage.{attributes_of}
+use Rattle.pur_tokens.specs.Storage.{stored_of}
 use Rattle.pur_tokens.proofs.AttributeLaws.{value_of-at, value_of-absent}
 use Rattle.pur_tokens.proofs.attribute_list.AttrList.get.Goals as goal
 
@@ -8,8 +8,8 @@ pub returns-in-Some : goal.returns-in-Some
 returns-in-Some c =
     rw (← c.self.view_is)
     (sym c.value_at.ensures
-    ∙ value_of-at (attributes_of c.self.inside.pairs) (chars c.args.name.now) c.in-Some.at c.self.invariant c.in-Some.ensures.found.named)
+    ∙ value_of-at (stored_of c.self.inside.pairs) (chars c.args.name.now) c.in-Some.at c.self.invariant c.in-Some.ensures.found.named)
 
 pub returns-in-None : goal.returns-in-None
 returns-in-None c =
-    rw (← c.self.view_is) (sym (value_of-absent (attributes_of c.self.inside.pairs) (chars c.args.name.now) c.in-None.ensures.absent))
+    rw (← c.self.view_is) (sym (value_of-absent (stored_of c.self.inside.pairs) (chars c.args.name.now) c.in-None.ensures.absent))

@@ -1,6 +1,6 @@
 use Rattle.std.proofs.Common.{◌≡◌, ◌≤◌, ◌+◌, ◌-◌, ◌^◌, ℕ, min, drop}
 use Rattle.pur_tokens.specs.Attributes.{weight_of}
-use Rattle.pur_tokens.specs.Storage.{attributes_of}
+use Rattle.pur_tokens.specs.Storage.{stored_of}
 use Rattle.pur_tokens.proofs.attribute_list.AttrList.weight.Given as goal
 
 -- what is counted with what is left to count
@@ -10,5 +10,5 @@ pub record Counted (counted left all : ℕ) : Type 0 where
 
 abbrev pub invariant-loop-at : goal.invariant-loop-at
 invariant-loop-at l =
-    let pairs = attributes_of l.self-inside.pairs in
+    let pairs = stored_of l.self-inside.pairs in
     Counted l.weight (weight_of (drop l.at pairs)) (weight_of pairs)
