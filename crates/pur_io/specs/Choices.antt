@@ -11,6 +11,13 @@ name_of Input = Some None
 name_of (File name file) = Some (Some (string_bytes name))
 name_of (Unopened name) = Some (Some (string_bytes name))
 
+-- the file that was opened
+abbrev pub file_of : {F : Type 0} → Choice F → Option F
+file_of Nothing = None
+file_of Input = None
+file_of (File name file) = Some file
+file_of (Unopened name) = None
+
 -- whether there is something to read from
 abbrev pub can_read : {F : Type 0} → Choice F → Bool
 can_read Nothing = false

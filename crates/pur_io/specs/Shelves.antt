@@ -39,9 +39,11 @@ pub record SureShelfState : Type 0 where
   pub chosen : Option Name
   pub place : ℕ
 
--- a shelf over the real world as its caller sees it: its count of faults, the name chosen last, whether
--- that opened something to read from, and the count of faults as it was chosen
-pub record FileShelfState : Type 0 where
+-- a shelf over the real world as its caller sees it: the file that was opened last, if it is the one chosen; the input; its
+-- count of faults, the name chosen last, whether that opened something to read from, and the count of faults as it was chosen
+pub record FileShelfState (I F : Type 0) : Type 0 where
+  pub file : Option F
+  pub input : I
   pub faults : ℕ
   pub chosen : Option Name
   pub is_readable : Bool

@@ -20,9 +20,10 @@ write_fails sink = is_failing sink.failing (one_more sink.number) || nat_le sink
 abbrev pub write_count : MemSinkState → ℕ → ℕ
 write_count sink len = min (sink.room - length sink.taken) (min sink.most len)
 
--- a standard stream as its caller sees it: its count of faults
-pub record StdSinkState : Type 0 where
+-- a standard stream as its caller sees it: its count of faults and the writer
+pub record StdSinkState (W : Type 0) : Type 0 where
   pub faults : ℕ
+  pub writer : W
 
 -- a sink that never fails as its caller sees it: how many bytes it was given, at most 2^64 - 1
 pub record SureSinkState : Type 0 where

@@ -1,8 +1,9 @@
 //! Files by their paths, and standard input, as a shelf.
 
-ghost use Rattle.std.specs.Prelude.{◌≡◌, ◌^◌, ◌<◌, ◌≤◌, length, false, not, Some, None, option_map, string_bytes, is_err, IfOk, OnErr, IsErr, IsOk, IsTrue};
+ghost use Rattle.std.specs.Io.KnownBytes.{ReadConsumes};
+ghost use Rattle.std.specs.Prelude.{◌≡◌, ◌≢◌, ◌^◌, ◌<◌, ◌≤◌, length, false, not, Some, None, option_map, string_bytes, is_err, is_some, IfOk, IfSome, OnErr, IsErr, IsOk, IsTrue};
 ghost use Rattle.pur_io.specs.Faults.{one_more, HasCause};
-ghost use Rattle.pur_io.specs.Choices.{name_of, can_read};
+ghost use Rattle.pur_io.specs.Choices.{name_of, can_read, file_of};
 ghost use Rattle.pur_io.specs.Shelves.{FileShelfState};
 
 use crate::traits::{Failed, Shelf};
@@ -21,7 +22,8 @@ enum Choice<F: Drop> {
     Unopened { name: String },
 }
 
-/// The real world as a shelf: a name is the path of a file. It tells no content.
+/// The real world as a shelf: a name is the path of a file. It tells no content, but contracts see the input and the
+/// file: a read has taken from one of them exactly what it gave, in the words that std has for what a reader has left.
 ///
 /// A fault is counted where a file can't be opened, where the system can't read, and where a read finds
 /// nothing to read from, because nothing was chosen yet or the file chosen last could not be opened. A
@@ -39,9 +41,11 @@ pub struct FileShelf<'r, R: Files, I: Read> {
 }
 
 impl<'r, R: Files, I: Read> Model for FileShelf<'r, R, I> {
-    ghost Value = { FileShelfState };
+    ghost Value = { FileShelfState I R.File };
 
     ghost view = { λ s. record {
+      file = file_of s.choice;
+      input = s.input;
       faults = s.fault_count;
       chosen = name_of s.choice;
       is_readable = can_read s.choice;
@@ -58,6 +62,7 @@ impl<'r, R: Files, I: Read> FileShelf<'r, R, I> {
         ensures chosen { result.chosen ≡ None }
         ensures readable { result.is_readable ≡ false }
         ensures mark { result.mark ≡ 0 }
+        ensures input { result.input ≡ input }
     {
         FileShelf {
             rt,
@@ -70,6 +75,8 @@ impl<'r, R: Files, I: Read> FileShelf<'r, R, I> {
 
     // Counts a fault.
     fn fault(&mut self) -> Failed
+        ensures input { self.new.input ≡ self.old.input }
+        ensures file { self.new.file ≡ self.old.file }
         ensures faults { self.new.faults ≡ one_more self.old.faults }
         ensures chosen { self.new.chosen ≡ self.old.chosen }
         ensures readable { self.new.is_readable ≡ self.old.is_readable }
@@ -100,6 +107,7 @@ impl<'r, R: Files, I: Read> Shelf for FileShelf<'r, R, I> {
         ensures counted { OnErr result (self.new.faults ≡ one_more self.old.faults) }
         ensures readable { is_err result ≡ not self.new.is_readable }
         ensures input { name ≡ None → IsOk result }
+        ensures input_kept { self.new.input ≡ self.old.input }
     {
         self.marked = self.fault_count;
         self.choice = open(self.rt, name);
@@ -120,6 +128,10 @@ impl<'r, R: Files, I: Read> Shelf for FileShelf<'r, R, I> {
         ensures cause { HasCause self.old.faults self.new.faults result }
         ensures counted { OnErr result (self.new.faults ≡ one_more self.old.faults) }
         ensures unreadable { self.old.is_readable ≡ false → IsErr result }
+        ensures input_read { self.old.chosen ≡ Some None → ReadConsumes (I.remaining self.old.input) (I.remaining self.new.input) result into.new }
+        ensures file_kept { is_some self.new.file ≡ is_some self.old.file }
+        ensures file_read { IfSome self.old.file (λ old. IfSome self.new.file (λ new. ReadConsumes (R.File.remaining old) (R.File.remaining new) result into.new)) }
+        ensures input_left { self.old.chosen ≢ Some None → self.new.input ≡ self.old.input }
     {
         let count = match &mut self.choice {
             Choice::Input => self.input.read(into).ok(),
