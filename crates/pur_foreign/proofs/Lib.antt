@@ -1,4 +1,6 @@
+pub mod AllowedLemmas
 pub mod TextLemmas
-pub mod NameLemmas
 pub mod StrictLemmas
 pub mod RemovalLemmas
+pub mod ImageLemmas
+pub mod ShownLemmas

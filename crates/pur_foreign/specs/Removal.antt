@@ -1,5 +1,5 @@
 -- The removal of foreign elements (the first strategy of HTML Purifier).
-use Rattle.std.specs.Prelude.{ℕ, Bool, true, false, List, [], ◌∷◌, ◌++◌, flat_map, ◌&&◌, Option, Some, None, if◌then◌else◌}
+use Rattle.std.specs.Prelude.{ℕ, Bool, true, false, List, [], ◌∷◌, flat_map, ◌&&◌, Option, Some, None, if◌then◌else◌}
 use Rattle.pur_names.specs.Elements.{element_name, element_named}
 use Rattle.pur_names.specs.declared.elements.Element.{Element}
 use Rattle.pur_names.specs.declared.elements.Element.TheVariants.{Img}
@@ -7,6 +7,7 @@ use Rattle.pur_modules.specs.declared.kinds.Doctype.{Doctype}
 use Rattle.pur_modules.specs.declared.kinds.Doctype.TheVariants.{Strict, Transitional}
 use Rattle.pur_tokens.specs.Attributes.{Attribute}
 use Rattle.pur_tokens.specs.Tokens.{PlainToken, text_token, start_token, end_token, empty_token, hidden_token, comment_token}
+use Rattle.pur_tokens.specs.Joining.{joined}
 use Rattle.pur_settings.specs.Rules.{Rules, permits_element}
 use Rattle.pur_foreign.specs.Strict.{strict_element, strict_attributes}
 
@@ -50,16 +51,6 @@ image_of rules (end_token name) = end_image rules (element_named name)
 image_of rules (hidden_token name body) = []
 image_of rules (comment_token text) = []
 
--- a token in front of others: two texts that become neighbours are one
-abbrev pub joined_to : PlainToken → List PlainToken → List PlainToken
-joined_to (text_token text) (text_token more ∷ tokens) = text_token (text ++ more) ∷ tokens
-joined_to token tokens = token ∷ tokens
-
--- tokens with neighbouring texts joined
-unfoldable pub with_texts_joined : List PlainToken → List PlainToken
-with_texts_joined [] = []
-with_texts_joined (token ∷ tokens) = joined_to token (with_texts_joined tokens)
-
 -- the tokens that stand for others, with neighbouring texts joined
 unfoldable pub without_foreign : Rules → List PlainToken → List PlainToken
-without_foreign rules tokens = with_texts_joined (flat_map (image_of rules) tokens)
+without_foreign rules tokens = joined (flat_map (image_of rules) tokens)

@@ -2,9 +2,11 @@
 //! alone has give way to others with a style. `specs/` says what stands for each token.
 #![tactic(auto)]
 
+mod laws;
 mod removal;
 mod strict;
 #[cfg(test)]
 mod tests;
 
-pub use removal::remove_foreign;
+pub use laws::{kept_is_joined, kept_is_permitted, removal_keeps_allowed, removal_keeps_texts};
+pub use removal::{Removal, remove_foreign};

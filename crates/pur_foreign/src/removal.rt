@@ -1,27 +1,29 @@
 //! The tokens that stay.
 
-ghost use Rattle.std.specs.Prelude.{◌≡◌, ◌<◌, ◌≤◌, ◌+◌, ℕ, ◌∷◌, ◌++◌, List, [], map, take, drop, length, slice_get, Some, IfOk, OnOk};
+ghost use Rattle.std.specs.Prelude.{◌≡◌, ℕ, ◌∷◌, ◌++◌, List, [], map, IfOk, OnOk};
 ghost use Rattle.pur_tokens.specs.Texts.{text_of};
-ghost use Rattle.pur_tokens.specs.Tokens.{PlainToken, plain_token, text_token};
+ghost use Rattle.pur_tokens.specs.Tokens.{PlainToken, plain_token};
 ghost use Rattle.pur_tokens.specs.Attributes.{Attribute};
 ghost use Rattle.pur_names.specs.Elements.{element_name, element_named};
-ghost use Rattle.pur_foreign.specs.Removal.{element_in, attributes_in, is_admitted, tag_image, end_image, joined_to, image_of, without_foreign};
-ghost use Rattle.pur_foreign.specs.Keeping.{tokens_kept, tags_kept, ends_kept, run_before, with_run, kept_on};
+ghost use Rattle.pur_tokens.specs.Joining.{tokens_given};
+ghost use Rattle.pur_foreign.specs.Removal.{element_in, attributes_in, is_admitted, tag_image, end_image, image_of, without_foreign};
+ghost use Rattle.pur_foreign.specs.Keeping.{tags_kept, ends_kept, kept_behind};
+ghost use Rattle.pur_settings.specs.Rules.{Rules};
 
 use crate::strict::{strict_attributes, strict_element};
 use pur_modules::Doctype;
 use pur_names::Element;
 use pur_settings::Settings;
-use pur_tokens::{AttrList, Tag, Token};
+use pur_tokens::{AttrList, Joiner, Tag, Token};
 use std::alloc::{AllocError, Global};
+use std::marker::Model;
 use std::mem;
 
 /// Removes foreign elements from a list of tokens: comments and hidden content, the tags of elements that the settings
 /// don't permit, and images, until URIs can be read. In Strict the elements that Transitional alone has give way to others
 /// with a style. Texts that become neighbours are joined.
 ///
-/// Takes one pass over the list and changes it where it stands: what stays moves to the front, and what is left behind it
-/// is cut off at the end. The error is want of memory; nothing is said of the list then.
+/// Takes one pass over the list. The error is want of memory; nothing is said of the list then.
 ///
 /// Source: the first strategy of HTML Purifier.
 pub fn remove_foreign(
@@ -31,32 +33,88 @@ pub fn remove_foreign(
 ) -> Result<(), AllocError>
     ensures { OnOk result (map plain_token tokens.new.items ≡ without_foreign settings.now (map plain_token tokens.old.items)) }
 {
-    let mut places = 0;
-    let mut run = None;
-    for at in 0..tokens.len() {
-        let token = take_token(alloc, tokens, at);
-        let kept = kept_token(alloc, settings, token)?;
-        places = put_kept(tokens, places, &mut run, kept)?;
+    let mut removal = Removal::new();
+    let all = mem::replace(tokens, Vec::new(alloc));
+    for token in all {
+        let given = removal.put(alloc, settings, token)?;
+        push_given(tokens, given)?;
     }
-    let places = put_run(tokens, places, run);
-    tokens.truncate(places);
+    let last = removal.finish();
+    push_given(tokens, last)?;
     Ok(())
 }
 
-// Takes the token at a place out, and leaves an empty text there.
-fn take_token(alloc: Global, tokens: &mut Vec<Token>, place: usize) -> Token
-    requires { place < length tokens.old.items }
-    ensures token { slice_get tokens.old.items place ≡ Some result }
-    ensures front { take place tokens.new.items ≡ take place tokens.old.items }
-    ensures behind { drop (place + 1) tokens.new.items ≡ drop (place + 1) tokens.old.items }
-    ensures length { length tokens.new.items ≡ length tokens.old.items }
+// Puts a token, if there is one, behind the others.
+fn push_given(tokens: &mut Vec<Token>, given: Option<Token>) -> Result<(), AllocError>
+    ensures { OnOk result (map plain_token tokens.new.items ≡ map plain_token tokens.old.items ++ tokens_given given) }
 {
-    mem::replace(&mut tokens[place], Token::Text(String::new(alloc)))
+    if let Some(token) = given {
+        tokens.push(token)?;
+    }
+    Ok(())
+}
+
+/// Removes foreign elements from tokens that come one at a time, as `remove_foreign` does from a list.
+///
+/// Holds the last token that stays back, since a text joins one that comes behind it. Contracts see that token.
+#[derive(Drop)]
+pub struct Removal {
+    joiner: Joiner,
+}
+
+impl Model for Removal {
+    ghost use Rattle.std.specs.Prelude.{Option};
+    ghost use Rattle.pur_tokens.specs.Tokens.{PlainToken};
+
+    ghost Value = { Option PlainToken };
+
+    ghost view = { λ removal. removal.joiner };
+}
+
+impl Removal {
+    /// A removal before all tokens. It takes no memory.
+    pub fn new() -> Removal
+        ensures { (rules : Rules) (tokens : List PlainToken) → kept_behind rules result tokens ≡ without_foreign rules tokens }
+    {
+        Removal {
+            joiner: Joiner::new(),
+        }
+    }
+
+    /// Takes the next token, and gives the next of those that stay, if that is known.
+    ///
+    /// The error is want of memory; nothing is said of the removal then.
+    pub fn put(
+        &mut self,
+        alloc: Global,
+        settings: &Settings,
+        token: Token,
+    ) -> Result<Option<Token>, AllocError>
+        ensures { IfOk result (λ given. (more : List PlainToken) →
+            kept_behind settings.now self.old (plain_token token ∷ more) ≡ tokens_given given ++ kept_behind settings.now self.new more) }
+    {
+        let kept = kept_token(alloc, settings, token)?;
+        match kept {
+            Some(token) => {
+                let given = self.joiner.put(token)?;
+                Ok(given)
+            }
+            None => Ok(None),
+        }
+    }
+
+    /// Gives the last token that stays, behind all others.
+    pub fn finish(self) -> Option<Token>
+        ensures { (rules : Rules) → kept_behind rules self [] ≡ tokens_given result }
+    {
+        let mut joiner = self.joiner;
+        joiner.take()
+    }
 }
 
 // What stays of a token.
 fn kept_token(alloc: Global, settings: &Settings, token: Token) -> Result<Option<Token>, AllocError>
-    ensures { IfOk result (λ kept. tokens_kept kept ≡ image_of settings.now (plain_token token)) }
+    ensures { IfOk result (λ kept. tokens_given kept ≡ image_of settings.now (plain_token token)) }
 {
     match token {
         Token::Text(text) => Ok(Some(Token::Text(text))),
@@ -155,100 +213,4 @@ fn attributes_in(
         Doctype::Strict => strict_attributes(alloc, element, attrs),
         Doctype::Transitional => Ok(attrs),
     }
-}
-
-// Puts what stays of a token behind the tokens at the first places and a run of text, which a text joins, and gives the
-// number of places after it.
-fn put_kept(
-    tokens: &mut Vec<Token>,
-    places: usize,
-    run: &mut Option<String>,
-    kept: Option<Token>,
-) -> Result<usize, AllocError>
-    requires { with_run places run.old < length tokens.old.items }
-    ensures places { IfOk result (λ after. with_run after run.new ≤ with_run places run.old + 1) }
-    ensures behind { (n : ℕ) → with_run places run.old < n → drop n tokens.new.items ≡ drop n tokens.old.items }
-    ensures length { length tokens.new.items ≡ length tokens.old.items }
-    ensures kept { IfOk result (λ after. (more : List PlainToken) →
-        kept_on (map plain_token (take after tokens.new.items)) run.new more
-        ≡ kept_on (map plain_token (take places tokens.old.items)) run.old (tokens_kept kept ++ more)) }
-{
-    match kept {
-        Some(token) => {
-            let after = put_token(tokens, places, run, token)?;
-            Ok(after)
-        }
-        None => Ok(places),
-    }
-}
-
-// Puts a token behind the tokens at the first places and a run of text, which a text joins, and gives the number of
-// places after it.
-fn put_token(
-    tokens: &mut Vec<Token>,
-    places: usize,
-    run: &mut Option<String>,
-    token: Token,
-) -> Result<usize, AllocError>
-    requires { with_run places run.old < length tokens.old.items }
-    ensures places { IfOk result (λ after. with_run after run.new ≤ with_run places run.old + 1) }
-    ensures behind { (n : ℕ) → with_run places run.old < n → drop n tokens.new.items ≡ drop n tokens.old.items }
-    ensures length { length tokens.new.items ≡ length tokens.old.items }
-    ensures kept { IfOk result (λ after. (more : List PlainToken) →
-        kept_on (map plain_token (take after tokens.new.items)) run.new more
-        ≡ kept_on (map plain_token (take places tokens.old.items)) run.old (plain_token token ∷ more)) }
-{
-    match token {
-        Token::Text(text) => {
-            push_text(run, text)?;
-            Ok(places)
-        }
-        other => {
-            let done = run.take();
-            let after = put_run(tokens, places, done);
-            put(tokens, after, other);
-            Ok(after + 1)
-        }
-    }
-}
-
-// Puts a text behind a run of text, or begins one with it.
-fn push_text(run: &mut Option<String>, text: String) -> Result<(), AllocError>
-    ensures { OnOk result ((tokens : List PlainToken) → run_before run.new tokens ≡ run_before run.old (joined_to (text_token (text_of text)) tokens)) }
-{
-    match run.take() {
-        Some(mut joined) => {
-            joined.push_str(text.as_str())?;
-            *run = Some(joined);
-        }
-        None => *run = Some(text),
-    }
-    Ok(())
-}
-
-// Puts a run of text, if there is one, behind the tokens at the first places, and gives the number of places after it.
-fn put_run(tokens: &mut Vec<Token>, places: usize, run: Option<String>) -> usize
-    requires { with_run places run ≤ length tokens.old.items }
-    ensures places { result ≡ with_run places run }
-    ensures front { map plain_token (take result tokens.new.items) ≡ map plain_token (take places tokens.old.items) ++ run_before run [] }
-    ensures behind { (n : ℕ) → with_run places run ≤ n → drop n tokens.new.items ≡ drop n tokens.old.items }
-    ensures length { length tokens.new.items ≡ length tokens.old.items }
-{
-    match run {
-        Some(text) => {
-            put(tokens, places, Token::Text(text));
-            places + 1
-        }
-        None => places,
-    }
-}
-
-// Puts a token at a place.
-fn put(tokens: &mut Vec<Token>, place: usize, token: Token)
-    requires { place < length tokens.old.items }
-    ensures front { take (place + 1) tokens.new.items ≡ take place tokens.old.items ++ token ∷ [] }
-    ensures behind { (n : ℕ) → place < n → drop n tokens.new.items ≡ drop n tokens.old.items }
-    ensures length { length tokens.new.items ≡ length tokens.old.items }
-{
-    tokens[place] = token;
 }

@@ -10,10 +10,10 @@ use Rattle.std.proofs.lemmas.Slice.Eq.{bytes_eq-Decides, slice_eq-Decides}
 use Rattle.std.proofs.lemmas.Bool.Decides.{Decides-eqb}
 use Rattle.std.specs.Char.{to_ascii_lowercase}
 use Rattle.pur_tokens.specs.Attributes.{is_same_text}
-use Rattle.pur_tokens.proofs.TextLaws.{true_together}
+use Rattle.pur_laws.proofs.Truth.{true_together}
 use Rattle.pur_lexer.proofs.TagLemmas.{not_behind, lowered-chars}
 use Rattle.std.proofs.lemmas.Str.{chars-nil, encodes-chars, encodes-IsAscii}
-use Rattle.pur_entities.proofs.CutLemmas.{is_ascii, ascii_at, chars_ascii, same_chars}
+use Rattle.pur_laws.proofs.Texts.{ascii_at, chars_ascii, is_ascii, same_chars}
 use Rattle.pur_tokens.specs.Tokens.{PlainToken, text_token, start_token, end_token, empty_token, hidden_token, comment_token}
 use Rattle.pur_lexer.specs.Places.{begins_with, begins_with_mark, is_character, run_to, rest_from}
 use Rattle.pur_lexer.specs.Tags.{lowered, is_letter, ends_tag_name, TagEnd, tag_end}

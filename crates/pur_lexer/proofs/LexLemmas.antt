@@ -1,79 +1,21 @@
 -- How the tokens that are read add up.
-use Rattle.std.proofs.Common.{◌≡◌, ℕ, zero, suc, ◌-◌, Bool, true, false, not, cond, List, [], ◌∷◌, ◌++◌, length, drop, Option, None, Some, option_map, refl, sym, ap, ◌∙◌, arith, append_assoc, append-nil, IsUtf8, lit<, encode_utf8_all, codes}
-use Rattle.std.specs.Prelude.{◌==◌, ◌&&◌, ◌||◌, IsTrue, IfSome}
-use Rattle.std.specs.List.{list_all}
+use Rattle.std.proofs.Common.{◌≡◌, ℕ, zero, suc, ◌-◌, Bool, true, false, not, cond, List, [], ◌∷◌, ◌++◌, length, drop, Option, None, Some, option_map, refl, sym, ap, ◌∙◌, arith, codes, filter, ◌<◌, ◌≤◌, IsUtf8, ⊎_elim, nat_lt}
+use Rattle.std.specs.Prelude.{◌==◌, ◌&&◌, ◌||◌, IfSome, IfNone}
 use Rattle.std.specs.Str.{chars}
-use Rattle.std.proofs.lemmas.Bool.{and_parts}
-use Rattle.std.proofs.lemmas.Bool.Decides.{nat_tests}
-use Rattle.std.proofs.lemmas.Str.{encodes-chars, chars-nil}
-use Rattle.pur_entities.specs.References.{decoded, decoded_behind}
-use Rattle.pur_entities.proofs.CutLemmas.{chars_around}
-use Rattle.pur_tokens.specs.Tokens.{PlainToken, plain_token, text_token, start_token, end_token, empty_token, hidden_token, comment_token}
+use Rattle.std.proofs.lemmas.Bool.{cases_lt, cond-false, eq-eqb, lt-ltb, ne_eqb}
+use Rattle.std.proofs.lemmas.Str.{chars-nil}
+use Rattle.pur_tokens.proofs.JoiningLaws.{ends}
+use Rattle.pur_laws.proofs.Texts.{some_chars, no_chars}
+use Rattle.pur_tokens.specs.Joining.{joined, held_before, tokens_given, is_some_token}
+use Rattle.pur_tokens.specs.Tokens.{PlainToken, plain_token, text_token, start_token, empty_token, comment_token}
 use Rattle.pur_tokens.specs.declared.tokens.Token.{Token}
 use Rattle.pur_tokens.specs.Attributes.{Attribute}
-use Rattle.pur_lexer.specs.Cutting.{is_text_character}
 use Rattle.pur_lexer.specs.Places.{begins_with, begins_with_mark, is_character, run_to, rest_from}
 use Rattle.pur_lexer.specs.Tags.{Step, end_step, attribute_step, TagEnd, with_attributes, end_by_step, step_of, tag_end_behind, tag_end, with_first_of_names, lowered, ends_tag_name, is_letter}
 use Rattle.pur_lexer.specs.Constructs.{Construct, gives_one, closed_by, through_mark, end_tag_of, is_hiding, is_end_mark, hidden_of, tag_by_end, tag_of, tag_or_text, markup_of, plain_text, construct_of}
-use Rattle.pur_lexer.specs.Lexing.{given_behind, text_before, joined, tokens_of, text_alone, read_on}
-use Rattle.pur_lexer.specs.Readings.{construct_with, tokens_given}
-use Rattle.pur_lexer.proofs.CutLemmas.{run_passes}
+use Rattle.pur_lexer.specs.Lexing.{given_behind, tokens_of}
+use Rattle.pur_lexer.specs.Readings.{construct_with, left_of}
 use Rattle.pur_lexer.proofs.TagEndLemmas.{IsRestOf, rest_of_rest, behind, whole, further, from_place, at_rest, GoesOn, step_of-goes}
-
--- a run of text is joined to one behind it
-pub text_twice : (s d : List ℕ) (tokens : List PlainToken) → text_before s (text_before d tokens) ≡ text_before (s ++ d) tokens
-text_twice [] d tokens = refl
-text_twice (c ∷ s) [] tokens = ap (λ (l : List ℕ). text_before (c ∷ l) tokens) (sym (append-nil s))
-text_twice (c ∷ s) (x ∷ d) [] = refl
-text_twice (c ∷ s) (x ∷ d) (text_token more ∷ tokens) = ap (λ (l : List ℕ). text_token l ∷ tokens) (sym (append_assoc (c ∷ s) (x ∷ d) more))
-text_twice (c ∷ s) (x ∷ d) (start_token n a ∷ tokens) = refl
-text_twice (c ∷ s) (x ∷ d) (end_token n ∷ tokens) = refl
-text_twice (c ∷ s) (x ∷ d) (empty_token n a ∷ tokens) = refl
-text_twice (c ∷ s) (x ∷ d) (hidden_token n b ∷ tokens) = refl
-text_twice (c ∷ s) (x ∷ d) (comment_token t ∷ tokens) = refl
-
-pub text_read : (done : List PlainToken) (run new text : List ℕ) (more : List PlainToken) → new ≡ run ++ text → read_on done new more ≡ read_on done run (text_token text ∷ more)
-unfolding read_on joined
-text_read done run new text more e =
-    ap (λ (l : List ℕ). done ++ text_before l (joined more)) e ∙ ap (λ (l : List PlainToken). done ++ l) (sym (text_twice run text (joined more)))
-
--- a token that is no text
-abbrev pub IsOther : PlainToken → Type 0
-IsOther token = (s : List ℕ) (more : List PlainToken) → text_before s (joined (token ∷ more)) ≡ text_alone s ++ token ∷ joined more
-
-pub start-other : (n : List ℕ) (a : List Attribute) → IsOther (start_token n a)
-unfolding joined
-start-other n a [] more = refl
-start-other n a (c ∷ s) more = refl
-
-pub end-other : (n : List ℕ) → IsOther (end_token n)
-unfolding joined
-end-other n [] more = refl
-end-other n (c ∷ s) more = refl
-
-pub empty-other : (n : List ℕ) (a : List Attribute) → IsOther (empty_token n a)
-unfolding joined
-empty-other n a [] more = refl
-empty-other n a (c ∷ s) more = refl
-
-pub hidden-other : (n b : List ℕ) → IsOther (hidden_token n b)
-unfolding joined
-hidden-other n b [] more = refl
-hidden-other n b (c ∷ s) more = refl
-
-pub comment-other : (t : List ℕ) → IsOther (comment_token t)
-unfolding joined
-comment-other t [] more = refl
-comment-other t (c ∷ s) more = refl
-
-pub other_read : (done now : List PlainToken) (run new : List ℕ) (token : PlainToken) (more : List PlainToken) → IsOther token → now ≡ done ++ text_alone run ++ token ∷ [] → new ≡ []
-    → read_on now new more ≡ read_on done run (token ∷ more)
-unfolding read_on
-other_read done now run new token more other e f =
-    (λ i. e i ++ text_before (f i) (joined more))
-    ∙ append_assoc (done ++ text_alone run) (token ∷ []) (joined more)
-    ∙ append_assoc done (text_alone run) (token ∷ joined more)
-    ∙ ap (λ (l : List PlainToken). done ++ l) (sym (other run more))
 
 -- each construct ends at a rest of the text
 closed_by-rest : (mark : List ℕ) (token : PlainToken) (t : List ℕ) → IsRestOf (closed_by mark token t).rest t
@@ -173,105 +115,94 @@ given_passed (suc k) (c ∷ t) = given_passed k t
 given_rest : (gives : List PlainToken) (rest t : List ℕ) → IsRestOf rest t → gives ++ given_behind (length t - length rest) t ≡ gives ++ given_behind 0 rest
 given_rest gives rest t h = ap (λ (l : List PlainToken). gives ++ l) (given_passed (length t - length rest) t ∙ ap (given_behind 0) (at_rest rest t h))
 
-pub given-markup : (t : List ℕ) → given_behind 0 (0x3C ∷ t) ≡ (markup_of t).gives ++ given_behind 0 (markup_of t).rest
-unfolding given_behind construct_of
-given-markup t = given_rest (markup_of t).gives (markup_of t).rest t (markup_of-rest t)
-
--- a run of text before a `<` or the end
-abbrev pub stops : List ℕ → Bool
-stops [] = true
-stops (c ∷ t) = c == 0x3C
-
-run_stops : (s u : List ℕ) → list_all is_text_character s ≡ true → stops u ≡ true → run_to (begins_with (is_character 0x3C)) (s ++ u) ≡ s
-unfolding run_to is_text_character
-run_stops [] [] all e = refl
-run_stops [] (c ∷ u) all e = rw e refl
-run_stops (c ∷ s) u all e =
-    let both = and_parts (not (c == 0x3C)) (list_all is_text_character s) all in
-    let other : (c == 0x3C) ≡ false = grind (arith, nat_tests) in
-    rw other (ap (λ (l : List ℕ). c ∷ l) (run_stops s u both.1 e))
-
-rest_stops : (s u : List ℕ) → list_all is_text_character s ≡ true → stops u ≡ true → rest_from (begins_with (is_character 0x3C)) (s ++ u) ≡ u
-unfolding rest_from is_text_character
-rest_stops [] [] all e = refl
-rest_stops [] (c ∷ u) all e = rw e refl
-rest_stops (c ∷ s) u all e =
-    let both = and_parts (not (c == 0x3C)) (list_all is_text_character s) all in
-    let other : (c == 0x3C) ≡ false = grind (arith, nat_tests) in
-    rw other (rest_stops s u both.1 e)
-
-plain_first : (c : ℕ) (t : List ℕ) → (c == 0x3C) ≡ false → construct_of (c ∷ t) ≡ plain_text (c ∷ t)
-unfolding construct_of
-plain_first c t other = rw other refl
-
-plain_rest : (c : ℕ) (t : List ℕ) → (c == 0x3C) ≡ false → IsRestOf (plain_text (c ∷ t)).rest t
+plain_text-rest : (c : ℕ) (t : List ℕ) → (c == 0x3C) ≡ false → IsRestOf (plain_text (c ∷ t)).rest t
 unfolding rest_from
-plain_rest c t other = rw other (from_place (begins_with (is_character 0x3C)) t)
+plain_text-rest c t other = rw other (from_place (begins_with (is_character 0x3C)) t)
 
-given-first : (c : ℕ) (t : List ℕ) → given_behind 0 (c ∷ t) ≡ (construct_of (c ∷ t)).gives ++ given_behind (length t - length (construct_of (c ∷ t)).rest) t
+construct_of-rest : (c : ℕ) (t : List ℕ) → IsRestOf (construct_of (c ∷ t)).rest t
+unfolding construct_of
+construct_of-rest c t = by (c == 0x3C) refl
+  where
+    by : (b : Bool) → (c == 0x3C) ≡ b → IsRestOf (cond b (markup_of t) (plain_text (c ∷ t))).rest t
+    by true is = markup_of-rest t
+    by false other = plain_text-rest c t other
+
+-- the constructs of a text are the first, and those of the text behind it
+given-first : (c : ℕ) (t : List ℕ) → given_behind 0 (c ∷ t) ≡ (construct_of (c ∷ t)).gives ++ given_behind 0 (construct_of (c ∷ t)).rest
 unfolding given_behind
-given-first c t = refl
+given-first c t = given_rest (construct_of (c ∷ t)).gives (construct_of (c ∷ t)).rest t (construct_of-rest c t)
 
-pub given-plain : (c : ℕ) (s u : List ℕ) → list_all is_text_character (c ∷ s) ≡ true → stops u ≡ true → given_behind 0 ((c ∷ s) ++ u) ≡ text_token (decoded (c ∷ s)) ∷ given_behind 0 u
-unfolding is_text_character
-given-plain c s u all e =
-    let both = and_parts (not (c == 0x3C)) (list_all is_text_character s) all in
-    let other : (c == 0x3C) ≡ false = grind (arith, nat_tests) in
-    let plain = plain_text (c ∷ (s ++ u)) in
-    given-first c (s ++ u)
-    ∙ ap (λ (x : Construct). x.gives ++ given_behind (length (s ++ u) - length x.rest) (s ++ u)) (plain_first c (s ++ u) other)
-    ∙ given_rest plain.gives plain.rest (s ++ u) (plain_rest c (s ++ u) other)
-    ∙ (λ i. text_token (decoded (run_stops (c ∷ s) u all e i)) ∷ given_behind 0 (rest_stops (c ∷ s) u all e i))
+pub given-construct : (token : Option Token) (text rest : List ℕ) → 0 < length text → construct_with (option_map plain_token token) rest ≡ construct_of text
+    → tokens_given token ++ given_behind 0 rest ≡ given_behind 0 text
+given-construct token [] rest some e = absurd (omega arith)
+given-construct token (c ∷ text) rest some e = by token e ∙ sym (given-first c text)
+  where
+    by : (token : Option Token) → construct_with (option_map plain_token token) rest ≡ construct_of (c ∷ text)
+        → tokens_given token ++ given_behind 0 rest ≡ (construct_of (c ∷ text)).gives ++ given_behind 0 (construct_of (c ∷ text)).rest
+    by None e = ap (λ (x : Construct). x.gives ++ given_behind 0 x.rest) e
+    by (Some token) e = ap (λ (x : Construct). x.gives ++ given_behind 0 x.rest) e
 
-pub plain_read : (done : List PlainToken) (run new s u : List ℕ) → list_all is_text_character s ≡ true → stops u ≡ true → new ≡ run ++ decoded s
-    → read_on done new (given_behind 0 u) ≡ read_on done run (given_behind 0 (s ++ u))
-unfolding decoded decoded_behind
-plain_read done run new [] u all e added = ap (λ (l : List ℕ). read_on done l (given_behind 0 u)) (added ∙ append-nil run)
-plain_read done run new (c ∷ s) u all e added =
-    text_read done run new (decoded (c ∷ s)) (given_behind 0 u) added ∙ ap (read_on done run) (sym (given-plain c s u all e))
+-- a text that begins with a `<`, and one that doesn't
+pub construct-markup : (t : List ℕ) → construct_of (0x3C ∷ t) ≡ markup_of t
+unfolding construct_of
+construct-markup t = refl
 
--- before all
-pub at_start : (done : List PlainToken) (run t : List ℕ) → done ≡ [] → run ≡ [] → read_on done run (given_behind 0 t) ≡ tokens_of t
-unfolding read_on tokens_of
-at_start done run t e f = λ i. e i ++ text_before (f i) (joined (given_behind 0 t))
+pub construct-plain : (t : List ℕ) → begins_with (is_character 0x3C) t ≡ false → construct_of t ≡ plain_text t
+unfolding construct_of
+construct-plain t other = rw other refl
 
-one_construct : (token : Option Token) (r : List ℕ) (m : Construct) → construct_with (option_map plain_token token) r ≡ m → tokens_given token ++ given_behind 0 r ≡ m.gives ++ given_behind 0 m.rest
-one_construct None r m e = ap (λ (x : Construct). x.gives ++ given_behind 0 x.rest) e
-one_construct (Some token) r m e = ap (λ (x : Construct). x.gives ++ given_behind 0 x.rest) e
+-- such a run has characters
+pub run-some : (text run : List ℕ) → IsUtf8 text → 0 < length text → begins_with (is_character 0x3C) (chars text) ≡ false
+    → chars run ≡ run_to (begins_with (is_character 0x3C)) (chars text) → 0 < length run
+unfolding run_to
+run-some text [] is some other e = by (chars text) (some_chars text is some) other (sym chars-nil ∙ e)
+  where
+    by : (cs : List ℕ) → 0 < length cs → begins_with (is_character 0x3C) cs ≡ false → [] ≡ run_to (begins_with (is_character 0x3C)) cs → 0 < 0
+    by [] some other e = absurd (omega arith)
+    by (c ∷ cs) some other e = absurd (let f : [] ≡ c ∷ run_to (begins_with (is_character 0x3C)) cs = e ∙ cond-false _ _ _ other in cc)
+run-some text (b ∷ run) is some other e = omega arith
 
--- a run of text and what the `<` behind it begins
-pub step_read : (done now : List PlainToken) (run mid new plain tag behind rest : List ℕ) (token : Option Token) (found : List PlainToken) → IsUtf8 plain → IsUtf8 tag
-    → rest ≡ plain ++ 0x3C ∷ tag → IsTrue (list_all is_text_character plain) → mid ≡ run ++ decoded (chars plain) → construct_with (option_map plain_token token) (chars behind) ≡ markup_of (chars tag)
-    → ((more : List PlainToken) → read_on now new more ≡ read_on done mid (tokens_given token ++ more))
-    → read_on done run (given_behind 0 (chars rest)) ≡ found → read_on now new (given_behind 0 (chars behind)) ≡ found
-step_read done now run mid new plain tag behind rest token found is_plain is_tag parts all added construct pushed h =
-    pushed (given_behind 0 (chars behind))
-    ∙ ap (read_on done mid) (one_construct token (chars behind) (markup_of (chars tag)) construct ∙ sym (given-markup (chars tag)))
-    ∙ plain_read done run mid (chars plain) (0x3C ∷ chars tag) (run_passes plain is_plain all) refl added
-    ∙ ap (λ (t : List ℕ). read_on done run (given_behind 0 t)) (sym (chars_around plain tag 0x3C is_plain is_tag (lit< tt)) ∙ ap chars (sym parts))
-    ∙ h
+-- an empty text has no characters
+pub empty-some : (bytes : List ℕ) → IsUtf8 bytes → (length bytes == 0) ≡ not (nat_lt 0 (length (chars bytes)))
+empty-some bytes is = ⊎_elim
+    (λ (some : 0 < length bytes). ne_eqb _ _ (λ none. omega arith) ∙ sym (ap not (lt-ltb 0 _ (some_chars bytes is some))))
+    (λ (none : length bytes ≤ 0).
+    let empty : length bytes ≡ 0 = omega arith in
+    eq-eqb _ _ empty ∙ sym (ap (λ l. not (nat_lt 0 (length l))) (no_chars bytes empty)))
+    (cases_lt 0 (length bytes))
 
-alone : (run : List ℕ) → text_alone run ≡ text_before run []
-alone [] = refl
-alone (c ∷ run) = refl
+-- what is left is what is given next, and what is left behind it
+pub left-next : (before after : Option PlainToken) (token given : Option Token) (text rest : List ℕ)
+    → ((more : List PlainToken) → held_before before (joined (filter is_some_token (tokens_given token ++ more)))
+    ≡ tokens_given given ++ held_before after (joined (filter is_some_token more)))
+    → tokens_given token ++ given_behind 0 rest ≡ given_behind 0 text
+    → left_of before text ≡ tokens_given given ++ left_of after rest
+unfolding tokens_of
+left-next before after token given text rest step e =
+    ap (λ (tokens : List PlainToken). held_before before (joined (filter is_some_token tokens))) (sym e) ∙ step (given_behind 0 rest)
 
--- a run of text at the end
-pub all_read : (done now : List PlainToken) (run mid rest : List ℕ) (found : List PlainToken) → IsUtf8 rest → IsTrue (list_all is_text_character rest) → mid ≡ run ++ decoded (chars rest)
-    → now ≡ done ++ text_alone mid → read_on done run (given_behind 0 (chars rest)) ≡ found → now ≡ found
-unfolding read_on joined given_behind
-all_read done now run mid rest found is all added pushed h =
-    pushed ∙ ap (λ (l : List PlainToken). done ++ l) (alone mid)
-    ∙ plain_read done run mid (chars rest) [] (run_passes rest is all) refl added
-    ∙ ap (λ (t : List ℕ). read_on done run (given_behind 0 t)) (append-nil (chars rest))
-    ∙ h
+-- behind the text what is held is given, and then nothing is left
+pub left-some : (held after : Option PlainToken) (given : Option Token) (text : List ℕ) (found : List PlainToken) → text ≡ [] → option_map plain_token given ≡ held
+    → after ≡ None → left_of held text ≡ found → IfSome given (λ token. found ≡ plain_token token ∷ left_of after text)
+unfolding tokens_of given_behind joined
+left-some held after None text found none is gone e = tt
+left-some held after (Some token) text found none is gone e =
+    sym e ∙ (λ i. left_of (is' i) (none i)) ∙ ends (plain_token token) [] refl ∙ (λ i. plain_token token ∷ left_of (gone' i) (none' i))
+  where
+    is' : held ≡ Some (plain_token token)
+    is' = sym is
 
-alone_by : (text cs : List ℕ) → encode_utf8_all cs ≡ text → (length text ≡ 0 → ⊥) → text_alone cs ≡ text_token cs ∷ []
-alone_by text [] e some = absurd (some (ap length (sym e)))
-alone_by text (c ∷ cs) e some = refl
+    gone' : None ≡ after
+    gone' = sym gone
 
-pub some_alone : (text : List ℕ) → IsUtf8 text → (length text ≡ 0 → ⊥) → text_alone (chars text) ≡ text_token (chars text) ∷ []
-some_alone text is some = alone_by text (chars text) (encodes-chars text is) some
+    none' : [] ≡ text
+    none' = sym none
 
-pub none_alone : (text : List ℕ) → length text ≡ 0 → text_alone (chars text) ≡ []
-none_alone [] none = ap text_alone chars-nil
-none_alone (c ∷ text) none = absurd (omega arith)
+pub left-none : (held : Option PlainToken) (given : Option Token) (text : List ℕ) (found : List PlainToken) → text ≡ [] → option_map plain_token given ≡ held
+    → left_of held text ≡ found → IfNone given (found ≡ [])
+unfolding tokens_of given_behind joined
+left-none held None text found none is e = sym e ∙ (λ i. left_of (is' i) (none i))
+  where
+    is' : held ≡ None
+    is' = sym is
+left-none held (Some token) text found none is e = tt

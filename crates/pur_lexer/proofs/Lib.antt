@@ -1,3 +1,4 @@
+pub mod AllowedLemmas
 pub mod ConstructLemmas
 pub mod CutLemmas
 pub mod LexLemmas

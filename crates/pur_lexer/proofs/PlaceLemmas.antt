@@ -1,21 +1,23 @@
 -- A text that is cut at a place, in bytes and in characters.
-use Rattle.std.proofs.Common.{◌≡◌, ℕ, zero, suc, ◌+◌, ◌-◌, add-one, take_all, ◌<◌, ◌≤◌, Bool, true, false, List, [], ◌∷◌, ◌++◌, length, take, drop, get_or, cond, nat_eq, refl, sym, ap, ◌∙◌, arith, ⊎_elim, append-nil, encode_utf8, encode_utf8_all, IsUtf8, Option, None, Some, MatchOption, codes, lit<}
+use Rattle.std.proofs.Common.{◌≡◌, ℕ, zero, suc, ◌+◌, ◌-◌, add-one, take_all, ◌<◌, ◌≤◌, Bool, true, false, List, [], ◌∷◌, ◌++◌, length, take, drop, get_or, cond, nat_eq, refl, sym, ap, ◌∙◌, arith, ⊎_elim, encode_utf8, encode_utf8_all, IsUtf8, Option, None, Some, MatchOption, codes, lit<}
 use Rattle.std.specs.Prelude.{◌&&◌, ◌==◌}
 use lib.Utf8.{scalars, scalar}
 use Rattle.std.specs.Char.{to_ascii_lowercase}
 use Rattle.std.specs.List.{list_all}
 use Rattle.std.specs.Str.{chars, IsCharBoundary}
-use Rattle.std.proofs.lemmas.Bool.{cases_lt, and_parts, and_from}
+use Rattle.std.proofs.lemmas.Bool.{and_from, and_parts, cases_lt, false_from_ne_true}
 use Rattle.std.proofs.lemmas.Bool.Decides.{nat_tests}
 use Rattle.std.proofs.lemmas.List.{append_cancel_left}
-use Rattle.std.proofs.lemmas.Str.{chars-encodes, encode_ascii, encodes-append, encodes-IsAscii, chars-nil, chars_past_char, inside_one, length-encode, len_utf8_bounds, IsCharBoundary-from_take}
+use Rattle.std.proofs.lemmas.Str.{chars-encodes, encode_ascii, encodes-append, encodes-IsAscii, chars-nil, chars_past_char, IsCharBoundary-from_take}
+use Rattle.pur_laws.proofs.Sequences.{are_high, high_bytes, some_bytes}
+use Rattle.pur_laws.proofs.Truth.{and_false}
 use Rattle.pur_lexer.specs.Places.{begins_with, begins_with_mark, is_character, run_to, rest_from}
 use Rattle.std.proofs.lemmas.Bool.Decides.{Decides-eqb}
 use Rattle.std.proofs.lemmas.List.Prefix.{at_from_reads, at_reads}
 use Rattle.std.proofs.lemmas.List.{length-append, length-drop}
 use Rattle.std.proofs.lemmas.Slice.Eq.{starts_is}
 use Rattle.memchr.specs.Find.{OccursAt}
-use Rattle.pur_entities.proofs.CutLemmas.{is_ascii, ascii_at}
+use Rattle.pur_laws.proofs.Texts.{ascii_at, is_ascii}
 use Rattle.pur_lexer.specs.declared.places.Stop.{Stop}
 use Rattle.pur_lexer.specs.declared.places.Stop.TheVariants.{TagName, AttributeName, Gap, Space, BareValue}
 use Rattle.pur_lexer.specs.Tags.{ends_tag_name, ends_attribute_name, ends_gap, ends_space, ends_bare_value}
@@ -60,28 +62,6 @@ run_and_rest test (c ∷ t) = by (test (c ∷ t)) (run_and_rest test t)
     by : (b : Bool) → run_to test t ++ rest_from test t ≡ t → cond b [] (c ∷ run_to test t) ++ cond b (c ∷ t) (rest_from test t) ≡ c ∷ t
     by true e = refl
     by false e = ap (λ (l : List ℕ). c ∷ l) e
-
--- bytes past ASCII
-abbrev pub are_high : List ℕ → Type 0
-are_high bytes = (k : ℕ) → k < length bytes → 128 ≤ get_or bytes k 0
-
-pub high_bytes : (c : ℕ) → 128 ≤ c → are_high (encode_utf8 c)
-high_bytes c high k l = ⊎_elim
-    (λ (low : get_or (encode_utf8 c) k 0 < 128).
-    let one = inside_one c [] (encode_utf8 c ++ []) k refl l in
-    absurd (by (encode_utf8 c ++ []) (append-nil (encode_utf8 c)) one low))
-    (λ (is : 128 ≤ get_or (encode_utf8 c) k 0). is)
-    (cases_lt (get_or (encode_utf8 c) k 0) 128)
-  where
-    by : (xs : List ℕ) → xs ≡ encode_utf8 c → (get_or xs k 0 < 128 → c ≡ get_or xs k 0) → get_or (encode_utf8 c) k 0 < 128 → ⊥
-    by xs e one low =
-        let same : get_or xs k 0 ≡ get_or (encode_utf8 c) k 0 = ap (λ (l : List ℕ). get_or l k 0) e in
-        let less : get_or xs k 0 < 128 = omega arith in
-        let is : c ≡ get_or xs k 0 = one less in
-        omega arith
-
-pub some_bytes : (c : ℕ) → 0 < length (encode_utf8 c)
-some_bytes c = omega (arith, length-encode c, (len_utf8_bounds c).0)
 
 -- a test that gives the same for bytes and characters, and one answer for all past ASCII
 pub record IsPlainTest (test : List ℕ → Bool) : Type 0 where
@@ -204,10 +184,6 @@ first_is_plain test past_ascii wide = record {
         (λ (high : 128 ≤ c). by (encode_utf8 c) (encode_utf8_all cs) (high_bytes c high) (some_bytes c) ∙ sym (wide c high))
         (cases_lt c 128)
 
-pub not_true : (b : Bool) → ¬ (b ≡ true) → b ≡ false
-not_true true h = absurd (h refl)
-not_true false h = refl
-
 begins_with-at : (test : ℕ → Bool) (bytes : List ℕ) (k : ℕ) → k < length bytes → begins_with test (drop k bytes) ≡ test (get_or bytes k 0)
 begins_with-at test [] k l = absurd (omega arith)
 begins_with-at test (b ∷ bytes) zero l = refl
@@ -218,7 +194,7 @@ pub first_byte : (test : ℕ → Bool) (bytes : List ℕ) (n : ℕ) → n ≤ le
     → (n < length bytes → test (get_or bytes n 0) ≡ true) → IsFirstPlace (begins_with test) bytes n
 first_byte test bytes n within none found = record {
   within = within;
-  before = λ k l. begins_with-at test bytes k (omega arith) ∙ not_true _ (none k (omega arith) l);
+  before = λ k l. begins_with-at test bytes k (omega arith) ∙ false_from_ne_true _ (none k (omega arith) l);
   found = λ l. begins_with-at test bytes n l ∙ found l;
 }
 
@@ -226,7 +202,7 @@ occurs : (mark bytes : List ℕ) (k : ℕ) → OccursAt bytes mark k → begins_
 occurs mark bytes k h = (starts_is Decides-eqb (drop k bytes) mark _ refl).1 (drop (k + length mark) bytes) (at_from_reads 0 bytes mark k h.fits h.reads)
 
 occurs_not : (mark bytes : List ℕ) (k : ℕ) → 0 < length mark → ¬ (OccursAt bytes mark k) → begins_with_mark mark (drop k bytes) ≡ false
-occurs_not mark bytes k some none = not_true _ (λ is.
+occurs_not mark bytes k some none = false_from_ne_true _ (λ is.
     let rest = drop (length mark) (drop k bytes) in
     let front : drop k bytes ≡ mark ++ rest = (starts_is Decides-eqb (drop k bytes) mark _ refl).0 is in
     let long : length (drop k bytes) ≡ length (mark ++ rest) = ap length front in
@@ -307,17 +283,13 @@ mark_is_plain mark is = record {
   same = λ cs. mark_same mark cs is.ascii;
 }
 
-both_fail : (b : Bool) → (b && false) ≡ false
-both_fail true = refl
-both_fail false = refl
-
 -- a name that is as long as the text has nothing behind it
 pub name_too_long : (name bytes : List ℕ) → length bytes ≤ length name → begins_with_name name bytes ≡ false
 unfolding begins_with_name
 name_too_long [] [] l = refl
 name_too_long [] (b ∷ bytes) l = absurd (omega arith)
 name_too_long (n ∷ name) [] l = refl
-name_too_long (n ∷ name) (b ∷ bytes) l = rw (name_too_long name bytes (omega arith)) (both_fail _)
+name_too_long (n ∷ name) (b ∷ bytes) l = rw (name_too_long name bytes (omega arith)) (and_false _)
 
 -- one letter of a name
 pub name_letter : (name bytes : List ℕ) (k : ℕ) → k < length name → k < length bytes
@@ -420,12 +392,6 @@ no_end_mark name bytes e = rw e refl
 pub end_mark_begun : (name bytes : List ℕ) → begins_with_mark (codes "</") bytes ≡ true → begins_with_name name (drop 2 bytes) ≡ is_end_mark name bytes
 unfolding is_end_mark
 end_mark_begun name bytes e = rw e refl
-
-pub mark_fits : (mark bytes : List ℕ) → begins_with_mark mark bytes ≡ true → length mark ≤ length bytes
-mark_fits mark bytes e =
-    let rest = drop (length mark) bytes in
-    let front : bytes ≡ mark ++ rest = (starts_is Decides-eqb bytes mark _ refl).0 e in
-    omega (arith, ap length front, length-append mark rest)
 
 pub name_end_at : (name bytes whole : List ℕ) (k : ℕ) → length name ≡ k → length name < length bytes
     → begins_with_name (drop k name) (drop k bytes) ≡ begins_with_name name whole → ends_tag_name (get_or bytes (length name) 0) ≡ begins_with_name name whole

@@ -5,7 +5,8 @@ use Rattle.pur_tokens.specs.Tokens.{text_token, start_token, empty_token, hidden
 use Rattle.pur_lexer.specs.Places.{run_to, rest_from}
 use Rattle.pur_lexer.specs.Tags.{raw_value, attribute_behind, named_attribute, attribute_at, ends_with_slash, step_behind, step_of, tag_end_behind, tag_end}
 use Rattle.pur_lexer.specs.Constructs.{through_mark, begins_with_name, is_end_mark, hidden_of, tag_of, tag_or_text, markup_of, construct_of}
-use Rattle.pur_lexer.specs.Lexing.{given_behind, joined, tokens_of}
+use Rattle.pur_tokens.specs.Joining.{joined}
+use Rattle.pur_lexer.specs.Lexing.{given_behind, tokens_of}
 
 comment_between : tokens_of (codes "a<!--b-->c") ≡ text_token (codes "a") ∷ comment_token (codes "b") ∷ text_token (codes "c") ∷ []
 unfolding tokens_of joined given_behind construct_of markup_of through_mark run_to rest_from decoded decoded_behind

@@ -5,7 +5,7 @@ use Rattle.std.specs.List.{list_all}
 use Rattle.std.proofs.lemmas.Bool.{cases_lt, and_from, eqb-true}
 use Rattle.std.proofs.lemmas.Bool.Decides.{nat_tests}
 use Rattle.std.proofs.lemmas.List.Prefix.{end_rest}
-use Rattle.pur_entities.proofs.CutLemmas.{is_ascii, same_chars}
+use Rattle.pur_laws.proofs.Texts.{is_ascii, same_chars}
 use Rattle.std.proofs.lemmas.List.{length-drop}
 use Rattle.std.proofs.lemmas.Str.{chars-nil, encodes-chars}
 use Rattle.pur_tokens.specs.Attributes.{Attribute, with_new, first_of_names}

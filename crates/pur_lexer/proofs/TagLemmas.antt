@@ -13,8 +13,9 @@ use Rattle.pur_tokens.specs.Attributes.{Attribute, with_new}
 use Rattle.pur_lexer.specs.Places.{begins_with, is_character, run_to, rest_from}
 use Rattle.pur_lexer.specs.Tags.{ends_space, ends_attribute_name, with_raw_value, lowered, raw_value, quoted_value, bare_value, attribute_behind, named_attribute, attribute_at}
 use Rattle.pur_lexer.specs.Readings.{with_all_new}
-use Rattle.pur_lexer.proofs.CutLemmas.{chars_past}
-use Rattle.pur_lexer.proofs.PlaceLemmas.{not_true, are_high, high_bytes}
+use Rattle.pur_laws.proofs.Texts.{chars_past}
+use Rattle.pur_laws.proofs.Sequences.{are_high, high_bytes}
+use Rattle.std.proofs.lemmas.Bool.{false_from_ne_true}
 
 -- a text behind an ASCII character
 pub chars_behind : (text behind : List ℕ) (c : ℕ) → c < 128 → text ≡ c ∷ behind → chars text ≡ c ∷ chars behind
@@ -28,7 +29,7 @@ not_behind text c is low none = by (chars text) (encodes-chars text is)
   where
     by : (cs : List ℕ) → encode_utf8_all cs ≡ text → begins_with (is_character c) cs ≡ false
     by [] e = refl
-    by (d ∷ cs) e = not_true (d == c) (λ same.
+    by (d ∷ cs) e = false_from_ne_true (d == c) (λ same.
         let one : d ≡ c = grind (arith, nat_tests) in
         none (encode_utf8_all cs)
         (sym e ∙ ap (λ (x : ℕ). encode_utf8 x ++ encode_utf8_all cs) one ∙ ap (λ (l : List ℕ). l ++ encode_utf8_all cs) (encode_ascii c low)))

@@ -1,5 +1,5 @@
 -- Places where a text is cut, in bytes.
-use Rattle.std.specs.Prelude.{◌≡◌, ◌==◌, ◌<◌, ◌≤◌, ℕ, Bool, true, false, not, List, length, drop, nat_lt, IsTrue}
+use Rattle.std.specs.Prelude.{◌≡◌, ◌<◌, ◌≤◌, ℕ, Bool, true, false, List, length, drop, nat_lt, IsTrue}
 use Rattle.std.specs.List.{list_all}
 use Rattle.pur_lexer.specs.declared.places.Stop.{Stop}
 use Rattle.pur_lexer.specs.declared.places.Stop.TheVariants.{TagName, AttributeName, Gap, Space, BareValue}
@@ -12,10 +12,6 @@ stops_at AttributeName c = ends_attribute_name c
 stops_at Gap c = ends_gap c
 stops_at Space c = ends_space c
 stops_at BareValue c = ends_bare_value c
-
--- any character but `<` is text
-unfoldable pub is_text_character : ℕ → Bool
-is_text_character c = not (c == 0x3C)
 
 -- the first place of a list where what follows passes the test, or its end where there is none
 pub record IsFirstPlace (test : List ℕ → Bool) (bytes : List ℕ) (place : ℕ) : Type 0 where

@@ -1,10 +1,11 @@
 -- What is read so far, and what follows.
 use Rattle.std.specs.Prelude.{ℕ, Option, None, Some, Bool, List, [], ◌∷◌}
 use Rattle.pur_tokens.specs.Attributes.{Attribute, with_new}
-use Rattle.pur_tokens.specs.Tokens.{PlainToken, plain_token}
-use Rattle.pur_tokens.specs.declared.tokens.Token.{Token}
+use Rattle.pur_tokens.specs.Joining.{held_before}
+use Rattle.pur_tokens.specs.Tokens.{PlainToken}
 use Rattle.pur_lexer.specs.Tags.{TagEnd}
 use Rattle.pur_lexer.specs.Constructs.{Construct, gives_one}
+use Rattle.pur_lexer.specs.Lexing.{tokens_of}
 
 -- attributes with others put behind them one by one, each if its name is new
 unfoldable pub with_all_new : List Attribute → List Attribute → List Attribute
@@ -24,7 +25,6 @@ abbrev pub construct_with : Option PlainToken → List ℕ → Construct
 construct_with None rest = record { gives = []; rest = rest }
 construct_with (Some token) rest = gives_one token rest
 
--- what a construct gives that has this token, or none
-abbrev pub tokens_given : Option Token → List PlainToken
-tokens_given None = []
-tokens_given (Some token) = plain_token token ∷ []
+-- the tokens that are left: one that is held, where there is one, in front of those of the rest of the text
+abbrev pub left_of : Option PlainToken → List ℕ → List PlainToken
+left_of held rest = held_before held (tokens_of rest)

@@ -1,18 +1,16 @@
 //! The tokens of a text.
-ghost use Rattle.std.specs.Prelude.{◌≡◌, ◌∷◌, ◌++◌, [], List, map, IfOk, OnOk};
+ghost use Rattle.std.specs.Prelude.{◌≡◌, ◌<◌, ◌∷◌, ◌++◌, [], List, filter, length, map, not, IfOk, OnErr, IfSome, IfNone};
 ghost use Rattle.std.specs.Str.{chars};
-ghost use Rattle.pur_entities.specs.References.{decoded};
-ghost use Rattle.pur_tokens.specs.Texts.{text_of};
+ghost use Rattle.pur_tokens.specs.Joining.{joined, held_before, tokens_given, is_some_token};
 ghost use Rattle.pur_tokens.specs.Tokens.{PlainToken, plain_token};
-ghost use Rattle.pur_lexer.specs.Lexing.{tokens_of, text_alone, read_on};
-ghost use Rattle.pur_lexer.specs.Readings.{tokens_given};
+ghost use Rattle.pur_lexer.specs.Lexing.{given_behind, tokens_of};
 
 use crate::constructs::cut_markup;
-use crate::places::cut_at_tag;
+use crate::places::cut_at_character;
 use pur_entities::decode;
-use pur_tokens::Token;
+use pur_tokens::{Joiner, Token};
 use std::alloc::{AllocError, Global};
-use std::mem;
+use std::marker::Model;
 
 /// The tokens of a text, in order: texts, start tags, end tags, empty tags, hidden content, and comments.
 ///
@@ -24,110 +22,109 @@ use std::mem;
 pub fn lex(alloc: Global, text: &str) -> Result<Vec<Token>, AllocError>
     ensures tokens { IfOk result (λ tokens. map plain_token tokens.items ≡ tokens_of (chars text.now)) }
 {
+    let mut lexer = Lexer::new(alloc, text);
     let mut tokens = Vec::new(alloc);
-    let mut run = String::new(alloc);
-    let mut rest = text;
-    'reading: while let Some((plain, tag)) = cut_at_tag(rest) {
-        push_plain_text(alloc, &mut run, plain)?;
-        let (token, behind) = cut_markup(alloc, tag)?;
-        push_if_some(alloc, &mut tokens, &mut run, token)?;
-        rest = behind;
+    'reading: while let Some(token) = lexer.next()? {
+        tokens.push(token)?;
     }
-    push_plain_text(alloc, &mut run, rest)?;
-    push_run(&mut tokens, run)?;
     Ok(tokens)
 }
 
-// Puts a text behind a run of text, with its references read.
-fn push_plain_text(alloc: Global, run: &mut String, text: &str) -> Result<(), AllocError>
-    ensures { OnOk result (text_of run.new ≡ text_of run.old ++ decoded (chars text.now)) }
-{
-    let text = decode(alloc, text)?;
-    run.push_str(text.as_str())?;
-    Ok(())
+/// Gives the tokens of a text one at a time, as `lex` gives them all.
+///
+/// Contracts see the tokens that are left.
+#[derive(Drop)]
+pub struct Lexer<'a> {
+    alloc: Global,
+    joiner: Joiner,
+    rest: &'a str,
 }
 
-// Puts the token of a construct, if it has one, behind the others and a run of text.
-fn push_if_some(
-    alloc: Global,
-    tokens: &mut Vec<Token>,
-    run: &mut String,
-    token: Option<Token>,
-) -> Result<(), AllocError>
-    ensures { OnOk result ((more : List PlainToken) → read_on (map plain_token tokens.new.items) (text_of run.new) more
-        ≡ read_on (map plain_token tokens.old.items) (text_of run.old) (tokens_given token ++ more)) }
+impl<'a> Model for Lexer<'a> {
+    ghost use Rattle.std.specs.Prelude.{List};
+    ghost use Rattle.std.specs.Str.{chars};
+    ghost use Rattle.pur_tokens.specs.Tokens.{PlainToken};
+    ghost use Rattle.pur_lexer.specs.Readings.{left_of};
+
+    ghost Value = { List PlainToken };
+
+    ghost view = { λ l. left_of l.joiner (chars l.rest.now) };
+}
+
+impl<'a> Lexer<'a> {
+    /// A lexer before a text. It takes no memory.
+    pub fn new(alloc: Global, text: &'a str) -> Lexer<'a>
+        ensures { result ≡ tokens_of (chars text.now) }
+    {
+        Lexer {
+            alloc,
+            joiner: Joiner::new(),
+            rest: text,
+        }
+    }
+
+    /// The next token, or None where none is left.
+    ///
+    /// The error is want of memory, and the lexer is then as it was.
+    pub fn next(&mut self) -> Result<Option<Token>, AllocError>
+        ensures token { IfOk result (λ token. IfSome token (λ token. self.old ≡ plain_token token ∷ self.new)) }
+        ensures end { IfOk result (λ token. IfNone token (self.old ≡ [])) }
+        ensures err { OnErr result (self.new ≡ self.old) }
+    {
+        'reading: while !self.rest.is_empty() {
+            let (token, behind) = cut_construct(self.alloc, self.rest)?;
+            let given = put_some(&mut self.joiner, token)?;
+            self.rest = behind;
+            if let Some(token) = given {
+                return Ok(Some(token));
+            }
+        }
+        Ok(self.joiner.take())
+    }
+}
+
+// The token of the construct that begins a text, if it has one, and the text behind it, whose constructs are all others.
+fn cut_construct(alloc: Global, text: &str) -> Result<(Option<Token>, &str), AllocError>
+    requires { 0 < length text.now }
+    ensures shorter { IfOk result (λ cut. length cut.1.now < length text.now) }
+    ensures given { IfOk result (λ cut. tokens_given cut.0 ++ given_behind 0 (chars cut.1.now) ≡ given_behind 0 (chars text.now)) }
+{
+    if let Some(markup) = text.strip_prefix('<') {
+        let cut = cut_markup(alloc, markup)?;
+        return Ok(cut);
+    }
+    let (run, behind) = cut_at_character(text, b'<');
+    let read = decode(alloc, run)?;
+    Ok((Some(Token::Text(read)), behind))
+}
+
+// Puts a token, if there is one and it is no empty text, and gives the next that is known.
+fn put_some(joiner: &mut Joiner, token: Option<Token>) -> Result<Option<Token>, AllocError>
+    ensures given { IfOk result (λ given. (more : List PlainToken) →
+        held_before joiner.old (joined (filter is_some_token (tokens_given token ++ more)))
+        ≡ tokens_given given ++ held_before joiner.new (joined (filter is_some_token more))) }
+    ensures err { OnErr result (joiner.new ≡ joiner.old) }
 {
     match token {
         Some(token) => {
-            push_token(alloc, tokens, run, token)?;
-            Ok(())
+            if is_empty_text(&token) {
+                return Ok(None);
+            }
+            let given = joiner.put(token)?;
+            Ok(given)
         }
-        None => Ok(()),
+        None => Ok(None),
     }
 }
 
-// Puts a token behind the others and a run of text, which a text joins.
-fn push_token(
-    alloc: Global,
-    tokens: &mut Vec<Token>,
-    run: &mut String,
-    token: Token,
-) -> Result<(), AllocError>
-    ensures { OnOk result ((more : List PlainToken) → read_on (map plain_token tokens.new.items) (text_of run.new) more
-        ≡ read_on (map plain_token tokens.old.items) (text_of run.old) (plain_token token ∷ more)) }
+// Whether a token is a text without characters.
+fn is_empty_text(token: &Token) -> bool
+    ensures { result ≡ not (is_some_token (plain_token token.now)) }
 {
     match token {
-        Token::Text(text) => {
-            run.push_str(text.as_str())?;
-            Ok(())
-        }
-        Token::Start(tag) => {
-            push_other(alloc, tokens, run, Token::Start(tag))?;
-            Ok(())
-        }
-        Token::End(name) => {
-            push_other(alloc, tokens, run, Token::End(name))?;
-            Ok(())
-        }
-        Token::Empty(tag) => {
-            push_other(alloc, tokens, run, Token::Empty(tag))?;
-            Ok(())
-        }
-        Token::Hidden { name, body } => {
-            push_other(alloc, tokens, run, Token::Hidden { name, body })?;
-            Ok(())
-        }
-        Token::Comment(text) => {
-            push_other(alloc, tokens, run, Token::Comment(text))?;
-            Ok(())
-        }
+        Token::Text(text) => text.is_empty(),
+        _ => false,
     }
-}
-
-// Puts a run of text behind the tokens, and then this token, which is none; a new run begins.
-fn push_other(
-    alloc: Global,
-    tokens: &mut Vec<Token>,
-    run: &mut String,
-    token: Token,
-) -> Result<(), AllocError>
-    ensures tokens { OnOk result (map plain_token tokens.new.items ≡ map plain_token tokens.old.items ++ text_alone (text_of run.old) ++ plain_token token ∷ []) }
-    ensures run { OnOk result (text_of run.new ≡ []) }
-{
-    let done = mem::replace(run, String::new(alloc));
-    push_run(tokens, done)?;
-    tokens.push(token)?;
-    Ok(())
-}
-
-// Puts a run of text behind the tokens, if it isn't empty.
-fn push_run(tokens: &mut Vec<Token>, run: String) -> Result<(), AllocError>
-    ensures { OnOk result (map plain_token tokens.new.items ≡ map plain_token tokens.old.items ++ text_alone (text_of run)) }
-{
-    if !run.is_empty() {
-        tokens.push(Token::Text(run))?;
-    }
-    Ok(())
 }
 
 #[cfg(test)]

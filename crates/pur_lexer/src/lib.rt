@@ -4,7 +4,9 @@
 
 mod attributes;
 mod constructs;
+mod laws;
 mod lexing;
 mod places;
 
-pub use lexing::lex;
+pub use laws::{tokens_are_allowed, tokens_are_joined};
+pub use lexing::{Lexer, lex};

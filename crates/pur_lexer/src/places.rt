@@ -1,11 +1,10 @@
 // Texts cut at the first place where something ends them.
-ghost use Rattle.std.specs.Prelude.{◌≡◌, ◌++◌, ◌∷◌, ◌+◌, ◌-◌, ◌<◌, ◌≤◌, drop, length, IfNone, IfSome, IsTrue};
-ghost use Rattle.std.specs.List.{list_all};
+ghost use Rattle.std.specs.Prelude.{◌≡◌, ◌+◌, ◌-◌, ◌<◌, ◌≤◌, drop, length};
 ghost use Rattle.std.specs.Str.{chars, IsUtf8};
 ghost use Rattle.pur_lexer.specs.Places.{begins_with, begins_with_mark, is_character, run_to, rest_from};
 ghost use Rattle.pur_lexer.specs.Tags.{ends_tag_name};
 ghost use Rattle.pur_lexer.specs.Constructs.{begins_with_name, is_end_mark};
-ghost use Rattle.pur_lexer.specs.Cutting.{stops_at, is_text_character, IsFirstPlace, IsMark};
+ghost use Rattle.pur_lexer.specs.Cutting.{stops_at, IsFirstPlace, IsMark};
 
 use memchr::{memchr, memmem};
 
@@ -43,18 +42,6 @@ impl Stop {
             Stop::BareValue => matches!(byte, b' ' | b'\t' | b'\n' | b'>'),
         }
     }
-}
-
-/// The text before the first `<`, and the text behind it.
-pub(crate) fn cut_at_tag(text: &str) -> Option<(&str, &str)>
-    ensures text { IfSome result (λ parts. IsUtf8 parts.0.now × IsUtf8 parts.1.now) }
-    ensures parts { IfSome result (λ parts. text.now ≡ parts.0.now ++ 0x3C ∷ parts.1.now) }
-    ensures run { IfSome result (λ parts. IsTrue (list_all is_text_character parts.0.now)) }
-    ensures none { IfNone result (IsTrue (list_all is_text_character text.now)) }
-{
-    let place = memchr(b'<', text.as_bytes())?;
-    let (run, tag) = text.split_at(place);
-    Some((run, tag.strip_prefix('<')?))
 }
 
 /// The text up to the first place where a run ends, and the text from there on.

@@ -1,8 +1,9 @@
 -- The four parts are a declaration.
 use Rattle.std.proofs.Common.{◌++◌, ◌∙◌, ap, refl, codes}
 use Rattle.std.specs.Str.{chars}
+use Rattle.pur_tokens.proofs.TextLaws.{pushed}
+use Rattle.pur_laws.proofs.Texts.{chars_ascii}
 use Rattle.pur_tokens.specs.Texts.{text_of}
-use Rattle.pur_foreign.proofs.TextLemmas.{chars-plain, pushed}
 use Rattle.pur_foreign.proofs.StrictLemmas.{declared}
 use Rattle.pur_foreign.proofs.strict.push_declaration.Goals as goal
 
@@ -19,5 +20,5 @@ returns-in_ok-push_str-in-Some-4 c =
     let e2 = pushed s1 s2 (codes ":") c.in_ok-push_str-in-Some-2.ensures.bytes in
     let e3 = pushed s2 s3 v c.in_ok-push_str-in-Some-3.ensures.bytes in
     let e4 = pushed s3 s4 (codes ";") c.in_ok-push_str-in-Some-4.ensures.bytes in
-    rw c.in-Some.is (declared (text_of s0) (text_of s4) (chars p) (chars v) (chars (codes ":")) (chars (codes ";")) (chars-plain (codes ":") refl) (chars-plain (codes ";") refl)
+    rw c.in-Some.is (declared (text_of s0) (text_of s4) (chars p) (chars v) (chars (codes ":")) (chars (codes ";")) (chars_ascii (codes ":") refl) (chars_ascii (codes ";") refl)
     (e4 ∙ ap (λ l. l ++ chars (codes ";")) (e3 ∙ ap (λ l. l ++ chars v) (e2 ∙ ap (λ l. l ++ chars (codes ":")) e1))))

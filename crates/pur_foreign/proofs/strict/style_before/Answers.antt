@@ -1,5 +1,5 @@
 -- The other style stands behind.
-use Rattle.pur_foreign.proofs.TextLemmas.{pushed}
+use Rattle.pur_tokens.proofs.TextLaws.{pushed}
 use Rattle.pur_foreign.proofs.strict.style_before.Goals as goal
 
 pub returns-in_ok-push_str-in-Some : goal.returns-in_ok-push_str-in-Some

@@ -3,7 +3,8 @@ use Rattle.std.proofs.Common.{◌∙◌, sym, ap, Some, None, lit<, codes, refl}
 use Rattle.std.specs.Str.{chars}
 use Rattle.std.proofs.lemmas.Str.Pattern.{strip_prefix_char}
 use Rattle.pur_lexer.specs.Constructs.{markup_of}
-use Rattle.pur_lexer.proofs.CutLemmas.{prefix_parts, chars_past, begins_not}
+use Rattle.pur_laws.proofs.Texts.{chars_past}
+use Rattle.pur_lexer.proofs.CutLemmas.{prefix_parts, begins_not}
 use Rattle.pur_lexer.proofs.TagLemmas.{chars_behind, not_behind}
 use Rattle.pur_lexer.proofs.ConstructLemmas.{markup-comment, markup-data, markup-declaration, markup-instruction, markup-tag}
 use Rattle.pur_lexer.proofs.constructs.cut_markup.Goals as goal

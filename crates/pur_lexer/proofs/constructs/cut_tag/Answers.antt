@@ -2,7 +2,7 @@
 use Rattle.std.proofs.Common.{◌∙◌, sym, ap, codes, refl}
 use Rattle.std.specs.Str.{chars}
 use Rattle.pur_tokens.specs.Tokens.{text_token}
-use Rattle.pur_entities.proofs.CutLemmas.{chars_ascii}
+use Rattle.pur_laws.proofs.Texts.{chars_ascii}
 use Rattle.pur_lexer.specs.Constructs.{gives_one}
 use Rattle.pur_lexer.proofs.ConstructLemmas.{tag-end, tag-start, tag-text}
 use Rattle.pur_lexer.proofs.constructs.cut_tag.Goals as goal

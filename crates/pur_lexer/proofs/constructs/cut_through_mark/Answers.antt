@@ -1,7 +1,8 @@
 use Rattle.std.proofs.Common.{◌∙◌, sym, ap, Some, None}
 use Rattle.std.specs.Str.{chars}
-use Rattle.pur_entities.proofs.CutLemmas.{if_none}
-use Rattle.pur_lexer.proofs.CutLemmas.{prefix_parts, chars_past}
+use Rattle.pur_laws.proofs.Options.{if_none}
+use Rattle.pur_laws.proofs.Texts.{chars_past}
+use Rattle.pur_lexer.proofs.CutLemmas.{prefix_parts}
 use Rattle.pur_lexer.proofs.ConstructLemmas.{no_mark}
 use Rattle.pur_lexer.proofs.constructs.cut_through_mark.Goals as goal
 

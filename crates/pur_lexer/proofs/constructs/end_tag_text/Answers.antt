@@ -1,7 +1,7 @@
 use Rattle.std.proofs.Common.{◌∙◌, sym, Some, None, lit<}
 use Rattle.std.specs.Str.{chars}
 use Rattle.std.proofs.lemmas.Str.Pattern.{strip_prefix_char}
-use Rattle.pur_entities.proofs.CutLemmas.{if_none}
+use Rattle.pur_laws.proofs.Options.{if_none}
 use Rattle.pur_lexer.proofs.TagLemmas.{chars_behind}
 use Rattle.pur_lexer.proofs.ConstructLemmas.{no_slash, slash_no_letter}
 use Rattle.pur_lexer.proofs.constructs.end_tag_text.Goals as goal
