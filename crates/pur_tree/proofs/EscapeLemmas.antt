@@ -6,13 +6,13 @@ use Rattle.std.proofs.lemmas.List.Folds.{list_any-append}
 use Rattle.pur_text.specs.Escapes.{escape, escaped}
 
 -- the forms that a character is written in, by what it is
-abbrev form_of : Bool → Bool → Bool → ℕ → List ℕ
+abbrev pub form_of : Bool → Bool → Bool → ℕ → List ℕ
 form_of true l g c = codes "&amp;"
 form_of false true g c = codes "&lt;"
 form_of false false true c = codes "&gt;"
 form_of false false false c = c ∷ []
 
-escape-form : (c : ℕ) → escape c ≡ form_of (c == 38) (c == 60) (c == 62) c
+pub escape-form : (c : ℕ) → escape c ≡ form_of (c == 38) (c == 60) (c == 62) c
 escape-form c = go (c == 38) (c == 60) (c == 62)
   where
     go : (a l g : Bool) → (if a then codes "&amp;" else (if l then codes "&lt;" else (if g then codes "&gt;" else c ∷ []))) ≡ form_of a l g c

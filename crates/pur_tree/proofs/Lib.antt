@@ -1,9 +1,15 @@
+pub mod AttributeLemmas
 pub mod BuildingLemmas
+pub mod CutLemmas
 pub mod EscapeLemmas
+pub mod HoldsLemmas
+pub mod JoiningLemmas
 pub mod NameLemmas
 pub mod NodeLemmas
 pub mod NodesLemmas
+pub mod PushLemmas
 pub mod SpellingLemmas
 pub mod TextLemmas
 pub mod TokensLemmas
 pub mod TreeLemmas
+pub mod WalkLemmas

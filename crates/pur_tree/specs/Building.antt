@@ -1,17 +1,22 @@
-use Rattle.std.specs.Prelude.{ℕ, ◌≤◌, List, [], ◌∷◌, ◌++◌, ◌≡◌, length, Bool, true, false, not}
+use Rattle.std.specs.Prelude.{ℕ, ◌≤◌, List, [], ◌∷◌, ◌++◌, ◌≡◌, Bool, true, false, not}
 use Rattle.pur_names.specs.declared.elements.Element.{Element}
 use Rattle.pur_names.specs.declared.elements.Element.TheVariants.{P}
 use Rattle.pur_tree.specs.declared.node.Node.{Node}
 use Rattle.pur_tree.specs.declared.builder.Outer.{Outer}
 use Rattle.pur_modules.specs.Contents.{is_empty_element}
-use Rattle.pur_tree.specs.Nodes.{Nodes, no_nodes, text_first, elem_first, nodes_append, level_below, is_sound, is_joined}
+use Rattle.pur_tree.specs.Nodes.{PlainElem, Nodes, no_nodes, text_first, elem_first, nodes_append, level_in, is_sound, is_joined}
 use Rattle.pur_tree.specs.Image.{nodes_of}
+use Rattle.pur_tree.specs.Places.{Place, fragment, level_limit}
 use Rattle.pur_tree.specs.Tokens.{Token, opening_of, closing_of, tokens_of_nodes}
 
 -- a builder as contracts see it: its open elements, outermost first, each with the nodes that stand before it;
 -- the innermost one's children so far; and the text at their end
 abbrev pub Building : Type 0
 Building = List Outer × List Node × List ℕ
+
+-- an open element, without its children
+abbrev pub elem_of : Outer → PlainElem
+elem_of o = record { name = o.name; attrs = o.attrs }
 
 -- a run of text as nodes: no node where it is empty
 abbrev pub text_nodes : List ℕ → Nodes
@@ -33,7 +38,7 @@ opened_of b = opened_by b.0
 -- the tokens that were written before the children of the innermost open element
 abbrev pub written_before : List Outer → List Token
 written_before [] = []
-written_before (o ∷ os) = tokens_of_nodes (nodes_of o.before.items) ++ (opening_of o.name ∷ written_before os)
+written_before (o ∷ os) = tokens_of_nodes (nodes_of o.before.items) ++ (opening_of (elem_of o) ∷ written_before os)
 
 -- the tokens that were written so far
 abbrev pub written_of : Building → List Token
@@ -59,7 +64,7 @@ last_of (e ∷ f ∷ es) = last_of (f ∷ es)
 -- the nodes that there would be if each open element ended now
 abbrev pub finished : List Outer → Nodes → Nodes
 finished [] kids = kids
-finished (o ∷ os) kids = nodes_append (nodes_of o.before.items) (elem_first o.name (finished os kids) no_nodes)
+finished (o ∷ os) kids = nodes_append (nodes_of o.before.items) (elem_first (elem_of o) (finished os kids) no_nodes)
 
 -- the last of the nodes is a text
 abbrev pub ends_with_text : Nodes → Bool
@@ -69,15 +74,14 @@ ends_with_text (text_first s (text_first t rest)) = ends_with_text (text_first t
 ends_with_text (text_first s (elem_first e kids rest)) = ends_with_text rest
 ends_with_text (elem_first e kids rest) = ends_with_text rest
 
--- nodes below a parent of level n in which no level passes 128, no text is empty, EMPTY elements have no
--- children and no texts are neighbours
-pub record Fits (n : ℕ) (nodes : Nodes) : Type 0 where
-  pub low : level_below n nodes ≤ 128
+-- nodes in a place, in which no level passes the limit, no text is empty, EMPTY elements have no children and no
+-- texts are neighbours
+pub record Fits (at : Place) (nodes : Nodes) : Type 0 where
+  pub low : level_in at nodes ≤ level_limit
   pub sound : is_sound nodes ≡ true
   pub joined : is_joined nodes ≡ true
 
 -- what every builder keeps: what it would give now is a forest without neighbouring texts
 pub record IsBuilding (b : Building) : Type 0 where
-  pub fits : Fits 0 (finished b.0 (children_of b))
-  pub deep : length b.0 ≤ 128
+  pub fits : Fits fragment (finished b.0 (children_of b))
   pub ended : ends_with_text (nodes_of b.1) ≡ false

@@ -1,7 +1,11 @@
 pub mod Building
 pub mod Forests
 pub mod Image
+pub mod Joining
 pub mod Laws
 pub mod Nodes
+pub mod Places
+pub mod Properties
 pub mod Spelling
 pub mod Tokens
+pub mod Walks

@@ -1,18 +1,20 @@
-use Rattle.std.specs.Prelude.{ℕ, List, [], ◌∷◌, ◌++◌, ◌≡◌, cond, true, false}
+use Rattle.std.specs.Prelude.{ℕ, ◌+◌, Bool, true, false, ◌&&◌, not, List, [], ◌∷◌, ◌++◌, ◌≡◌, cond}
 use Rattle.pur_names.specs.declared.elements.Element.{Element}
 use Rattle.pur_modules.specs.Contents.{is_empty_element}
-use Rattle.pur_tree.specs.Nodes.{Nodes, no_nodes, text_first, elem_first}
+use Rattle.pur_tokens.specs.Texts.{times}
+use Rattle.pur_tree.specs.Nodes.{PlainElem, Nodes, no_nodes, text_first, elem_first}
 
--- a token of a document written out flat: a text, or the start tag, the end tag or the empty tag of an element
+-- a token of a document written out flat: a text, or the start tag, the end tag or the empty tag of an element;
+-- an end tag has a name alone
 pub data Token : Type 0 where
   text_token : List ℕ → Token
-  start_token : Element → Token
+  start_token : PlainElem → Token
   end_token : Element → Token
-  empty_token : Element → Token
+  empty_token : PlainElem → Token
 
 -- what opens an element: its start tag, and for an EMPTY element its empty tag
-abbrev pub opening_of : Element → Token
-opening_of e = cond (is_empty_element e) (empty_token e) (start_token e)
+abbrev pub opening_of : PlainElem → Token
+opening_of e = cond (is_empty_element e.name) (empty_token e) (start_token e)
 
 -- what closes an element: its end tag, and for an EMPTY element nothing
 abbrev pub closing_of : Element → List Token
@@ -22,7 +24,7 @@ closing_of e = cond (is_empty_element e) [] (end_token e ∷ [])
 abbrev pub tokens_of_nodes : Nodes → List Token
 tokens_of_nodes no_nodes = []
 tokens_of_nodes (text_first s rest) = text_token s ∷ tokens_of_nodes rest
-tokens_of_nodes (elem_first e kids rest) = opening_of e ∷ (tokens_of_nodes kids ++ (closing_of e ++ tokens_of_nodes rest))
+tokens_of_nodes (elem_first e kids rest) = opening_of e ∷ (tokens_of_nodes kids ++ (closing_of e.name ++ tokens_of_nodes rest))
 
 -- the nodes are the tree of a flat list of tokens
 abbrev pub IsTreeOf : Nodes → List Token → Type 0
@@ -31,18 +33,29 @@ IsTreeOf nodes tokens = tokens_of_nodes nodes ≡ tokens
 -- a token in front of others: two texts that become neighbours are one
 abbrev pub join_token : Token → List Token → List Token
 join_token (text_token s) (text_token t ∷ more) = text_token (s ++ t) ∷ more
-join_token (text_token s) [] = text_token s ∷ []
-join_token (text_token s) (start_token e ∷ more) = text_token s ∷ start_token e ∷ more
-join_token (text_token s) (end_token e ∷ more) = text_token s ∷ end_token e ∷ more
-join_token (text_token s) (empty_token e ∷ more) = text_token s ∷ empty_token e ∷ more
-join_token (start_token e) more = start_token e ∷ more
-join_token (end_token e) more = end_token e ∷ more
-join_token (empty_token e) more = empty_token e ∷ more
+join_token token tokens = token ∷ tokens
 
 -- the tokens in which neighbouring texts are one
 abbrev pub joined : List Token → List Token
 joined [] = []
 joined (t ∷ ts) = join_token t (joined ts)
+
+-- the list begins with a text
+abbrev pub begins_with_text : List Token → Bool
+begins_with_text (text_token s ∷ tokens) = true
+begins_with_text tokens = false
+
+-- no texts are neighbours
+abbrev pub has_no_neighbours : List Token → Bool
+has_no_neighbours [] = true
+has_no_neighbours (text_token s ∷ tokens) = not (begins_with_text tokens) && has_no_neighbours tokens
+has_no_neighbours (token ∷ tokens) = has_no_neighbours tokens
+
+-- how often a character, given as its number, stands in the texts of tokens that are written out
+abbrev pub count_in_written : ℕ → List Token → ℕ
+count_in_written c [] = 0
+count_in_written c (text_token s ∷ tokens) = times c s + count_in_written c tokens
+count_in_written c (token ∷ tokens) = count_in_written c tokens
 
 -- the nodes at the place where a list of tokens begins, and, for each element that ends in the list and
 -- doesn't begin there, the nodes after that element, innermost first
@@ -77,6 +90,6 @@ tree_of tokens = (levels_of tokens).here
 pub data IsBalanced : List Element → List Token → Type 0 where
   balanced_nothing : IsBalanced [] []
   balanced_text : {es : List Element} {s : List ℕ} {ts : List Token} → IsBalanced es ts → IsBalanced es (text_token s ∷ ts)
-  balanced_empty : {es : List Element} {e : Element} {ts : List Token} → is_empty_element e ≡ true → IsBalanced es ts → IsBalanced es (empty_token e ∷ ts)
-  balanced_start : {es : List Element} {e : Element} {ts : List Token} → is_empty_element e ≡ false → IsBalanced (e ∷ es) ts → IsBalanced es (start_token e ∷ ts)
+  balanced_empty : {es : List Element} {e : PlainElem} {ts : List Token} → is_empty_element e.name ≡ true → IsBalanced es ts → IsBalanced es (empty_token e ∷ ts)
+  balanced_start : {es : List Element} {e : PlainElem} {ts : List Token} → is_empty_element e.name ≡ false → IsBalanced (e.name ∷ es) ts → IsBalanced es (start_token e ∷ ts)
   balanced_stop : {es : List Element} {e : Element} {ts : List Token} → is_empty_element e ≡ false → IsBalanced es ts → IsBalanced (e ∷ es) (end_token e ∷ ts)

@@ -1,22 +1,26 @@
 ghost use Rattle.std.specs.Prelude.{◌≡◌, ◌++◌, ◌∷◌, [], ◌<◌, ◌-◌, length, vec_len, OnOk, OnErr, IfOk, string_bytes, IsTrue};
 ghost use Rattle.std.specs.Str.{chars};
 ghost use Rattle.pur_tree.specs.Building.{written_of, opened_of, closings_of, can_hold, last_of, text_nodes};
-ghost use Rattle.pur_tree.specs.Nodes.{nodes_append, is_joined};
+ghost use Rattle.pur_tree.specs.Nodes.{plain_elem, nodes_append, is_joined};
+ghost use Rattle.pur_tree.specs.Forests.{IsForest};
 ghost use Rattle.pur_tree.specs.Image.{nodes_of};
+ghost use Rattle.pur_tree.specs.Places.{LevelFits};
 ghost use Rattle.pur_tree.specs.Tokens.{opening_of, closing_of, text_token, joined, IsTreeOf};
 
 use crate::forest::Forest;
 use crate::node::{Elem, Node};
 use pur_names::Element;
+use pur_tokens::AttrList;
 use std::alloc::{AllocError, Global};
 use std::marker::Model;
 use std::mem;
 
-/// An open element, and the nodes that stand before it in its parent.
+/// An open element with its attributes, and the nodes that stand before it in its parent.
 #[derive(Drop)]
 struct Outer {
     before: Vec<Node>,
     name: Element,
+    attrs: AttrList,
 }
 
 /// Makes a forest from the opening and closing of elements and the texts between them, in the order in
@@ -52,9 +56,6 @@ impl Model for Builder {
 }
 
 impl Builder {
-    /// The most elements that may be open at once: the level limit.
-    pub const LEVEL_LIMIT: usize = 128;
-
     /// A builder with nothing written. It takes no memory.
     pub fn new(alloc: Global) -> Builder
         ensures written { written_of result ≡ [] }
@@ -68,19 +69,23 @@ impl Builder {
         }
     }
 
-    /// Opens an element in the innermost open one.
+    /// Opens an element with these attributes in the innermost open one.
     ///
-    /// The element's level must be within the limit of 128, and the innermost open element must not be EMPTY.
-    pub fn enter(&mut self, name: Element) -> Result<(), AllocError>
-        requires level { length (opened_of self.old) < 128 }
+    /// The element's level there must be within `LEVEL_LIMIT`, and the innermost open element must not be EMPTY.
+    pub fn enter(&mut self, name: Element, attrs: AttrList) -> Result<(), AllocError>
+        requires level { LevelFits (opened_of self.old) name }
         requires holds { IsTrue (can_hold (opened_of self.old)) }
-        ensures written { OnOk result (written_of self.new ≡ written_of self.old ++ opening_of name ∷ []) }
+        ensures written { OnOk result (written_of self.new ≡ written_of self.old ++ opening_of (plain_elem name attrs) ∷ []) }
         ensures opened { OnOk result (opened_of self.new ≡ opened_of self.old ++ name ∷ []) }
     {
         let text = mem::replace(&mut self.text, String::new(self.alloc));
         let mut before = mem::replace(&mut self.children, Vec::new(self.alloc));
         push_text(&mut before, text)?;
-        self.outer.push(Outer { before, name })?;
+        self.outer.push(Outer {
+            before,
+            name,
+            attrs,
+        })?;
         Ok(())
     }
 
@@ -97,6 +102,24 @@ impl Builder {
         Ok(())
     }
 
+    /// Puts a run of text behind what the innermost open element has, as `text` does, and takes it over where no text
+    /// stands there.
+    ///
+    /// The text must not be empty, and the innermost open element must not be EMPTY.
+    pub fn move_text(&mut self, text: String) -> Result<(), AllocError>
+        requires some { 0 < length (string_bytes text) }
+        requires holds { IsTrue (can_hold (opened_of self.old)) }
+        ensures written { OnOk result (written_of self.new ≡ joined (written_of self.old ++ text_token (chars (string_bytes text)) ∷ [])) }
+        ensures opened { OnOk result (opened_of self.new ≡ opened_of self.old) }
+    {
+        if self.text.is_empty() {
+            self.text = text;
+            return Ok(());
+        }
+        self.text.push_str(text.as_str())?;
+        Ok(())
+    }
+
     /// Ends the innermost open element, of which there must be one.
     pub fn leave(&mut self) -> Result<(), AllocError>
         requires { 0 < length (opened_of self.old) }
@@ -106,9 +129,20 @@ impl Builder {
         let text = mem::replace(&mut self.text, String::new(self.alloc));
         push_text(&mut self.children, text)?;
         match self.outer.pop() {
-            Some(Outer { mut before, name }) => {
-                let children = mem::replace(&mut self.children, Vec::new(self.alloc));
-                before.push(Node::Elem(Elem { name, children }))?;
+            Some(
+                Outer {
+                    mut before,
+                    name,
+                    attrs,
+                },
+            ) => {
+                let kept = mem::replace(&mut self.children, Vec::new(self.alloc));
+                let children = without_slack(kept);
+                before.push(Node::Elem(Elem {
+                    name,
+                    attrs,
+                    children,
+                }))?;
                 self.children = before;
                 Ok(())
             }
@@ -121,6 +155,7 @@ impl Builder {
         ensures tree { IfOk result (λ forest. IsTreeOf (nodes_of forest) (written_of self ++ closings_of (opened_of self))) }
         ensures settled { IfOk result (λ _. joined (written_of self ++ closings_of (opened_of self)) ≡ written_of self ++ closings_of (opened_of self)) }
         ensures joined { IfOk result (λ forest. IsTrue (is_joined (nodes_of forest))) }
+        ensures forest { IfOk result (λ forest. IsForest (nodes_of forest)) }
     {
         'closing: while !self.outer.is_empty() {
             self.leave()?;
@@ -131,7 +166,7 @@ impl Builder {
             ..
         } = self;
         push_text(&mut children, text)?;
-        Ok(Forest::from_nodes(children))
+        Ok(Forest::from_nodes(without_slack(children)))
     }
 }
 
@@ -143,6 +178,26 @@ fn push_text(nodes: &mut Vec<Node>, text: String) -> Result<(), AllocError>
     if text.is_empty() {
         return Ok(());
     }
+    make_room(nodes)?;
     nodes.push(Node::Text(text))?;
+    Ok(())
+}
+
+// The same nodes, without room for more of them: a tree keeps what it has until it is written.
+fn without_slack(mut nodes: Vec<Node>) -> Vec<Node>
+    ensures { result.items ≡ nodes.items }
+{
+    nodes.shrink_to_fit();
+    nodes
+}
+
+// Makes room for one node alone where there is none, since most elements that have a text have nothing else; a `Vec` that
+// grows by itself begins with four places.
+fn make_room(nodes: &mut Vec<Node>) -> Result<(), AllocError>
+    ensures { nodes.new.items ≡ nodes.old.items }
+{
+    if nodes.is_empty() {
+        nodes.reserve_exact(1)?;
+    }
     Ok(())
 }

@@ -10,12 +10,21 @@
 
 mod builder;
 mod forest;
+mod joining;
 mod laws;
+mod level;
 mod node;
 #[cfg(test)]
 mod tests;
+mod walking;
 
 pub use builder::Builder;
 pub use forest::Forest;
-pub use laws::{has_one_tree, has_spelling, has_tree, spelled_as_itself, spells_at_most_one};
+pub use laws::{
+    counts_alike, has_one_tree, has_spelling, has_tree, joins_texts, joins_tokens,
+    spelled_as_itself, spells_at_most_one, tables_reach_the_limit, walks_count, walks_go_on,
+    walks_keep_forests,
+};
+pub use level::{LEVEL_LIMIT, is_table, level_fits, level_rise};
 pub use node::{Elem, Node};
+pub use walking::{Rule, walk_nodes};

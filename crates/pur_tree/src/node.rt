@@ -1,4 +1,5 @@
 use pur_names::Element;
+use pur_tokens::AttrList;
 
 /// A node of a tree: a text or an element.
 #[cycle(node)]
@@ -10,12 +11,14 @@ pub enum Node {
     Elem(Elem),
 }
 
-/// An element: its name and its children in document order.
+/// An element: its name, its attributes and its children in document order.
 #[cycle(node)]
 #[derive(Drop)]
 pub struct Elem {
     /// The element's name.
     pub name: Element,
+    /// The attributes, in the order in which they are written.
+    pub attrs: AttrList,
     /// The children, in document order.
     pub children: Vec<Node>,
 }

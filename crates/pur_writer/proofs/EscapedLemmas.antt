@@ -1,28 +1,15 @@
 -- The escapes of a text, byte by byte and character by character.
-use Rattle.std.proofs.Common.{◌≡◌, ℕ, zero, suc, ◌<◌, ◌≤◌, Bool, true, false, List, [], ◌∷◌, ◌++◌, length, take, get_or, codes, encode_utf8, encode_utf8_all, refl, sym, ap, subst, ◌∙◌, arith, ⊎_elim, take_all, append-nil, append_assoc}
-use Rattle.std.specs.Prelude.{◌==◌, ◌||◌, not, if◌then◌else◌, Option, Some, None, IfNone}
+use Rattle.std.proofs.Common.{◌≡◌, ℕ, ◌<◌, Bool, true, false, List, [], ◌∷◌, ◌++◌, get_or, codes, encode_utf8, encode_utf8_all, refl, sym, ap, subst, ◌∙◌, arith, append-nil, append_assoc}
+use Rattle.std.specs.Prelude.{◌==◌, ◌||◌, not, if◌then◌else◌}
 use Rattle.std.specs.List.{list_all}
-use Rattle.std.proofs.lemmas.Bool.{cases_Bool, and_parts, eqb-true}
+use Rattle.std.proofs.lemmas.Bool.{and_parts, eqb-true}
 use Rattle.std.proofs.lemmas.Bool.Decides.{nat_tests}
 use Rattle.std.proofs.Math.Utf8.{encode}
 use Rattle.std.proofs.lemmas.Grind.{flat_map-append}
 use Rattle.std.proofs.lemmas.Str.{encodes-append, inside_one}
+use Rattle.pur_laws.proofs.Places.{none_at_all}
 use Rattle.pur_text.specs.Escapes.{escape, escaped}
 use Rattle.pur_writer.specs.Bytes.{is_special, is_plain}
-
--- no byte before place n passes the test
-pub none_before : (test : ℕ → Bool) (text : List ℕ) (n : ℕ) → ((k : ℕ) → 0 ≤ k → k < n → ¬ (test (get_or text k 0) ≡ true)) → list_all (λ b. not (test b)) (take n text) ≡ true
-none_before test text zero none = refl
-none_before test [] (suc n) none = refl
-none_before test (b ∷ text) (suc n) none = ⊎_elim
-    (λ (yes : test b ≡ true). absurd (none 0 (omega arith) (omega arith) yes))
-    (λ (no : test b ≡ false). rw no (none_before test text n (λ k low high. none (suc k) (omega arith) (omega arith))))
-    (cases_Bool (test b))
-
--- nor any byte of the text
-pub none_at_all : (test : ℕ → Bool) (text : List ℕ) → ((k : ℕ) → 0 ≤ k → k < length text → ¬ (test (get_or text k 0) ≡ true)) → list_all (λ b. not (test b)) text ≡ true
-none_at_all test text none =
-    subst (λ t. list_all (λ b. not (test b)) t ≡ true) (take_all (length text) text (omega arith)) (none_before test text (length text) none)
 
 pub escaped-append : (xs ys : List ℕ) → escaped (xs ++ ys) ≡ escaped xs ++ escaped ys
 unfolding escaped
@@ -77,7 +64,7 @@ unfolding encode escaped
 encode-greater = refl
 
 -- the UTF-8 of an escape
-encode-escape : (c : ℕ) → encode_utf8_all (escape c) ≡ escaped (encode_utf8 c)
+pub encode-escape : (c : ℕ) → encode_utf8_all (escape c) ≡ escaped (encode_utf8 c)
 encode-escape c = go (c == 0x26) refl (c == 0x3C) refl (c == 0x3E) refl
   where
     go : (a : Bool) → (c == 0x26) ≡ a → (l : Bool) → (c == 0x3C) ≡ l → (g : Bool) → (c == 0x3E) ≡ g → encode_utf8_all (escape c) ≡ escaped (encode_utf8 c)
@@ -111,8 +98,3 @@ run_written o a b run reference behind rest whole special p q r s all before =
   where
     regroup : (o u e v : List ℕ) → ((o ++ u) ++ e) ++ v ≡ o ++ (u ++ (e ++ v))
     regroup o u e v = simp append_assoc
-
--- an answer without a value keeps what is said of it
-pub if_none : {T : Type 0} (o : Option T) (P : Type 0) → P → IfNone o P
-if_none None P p = p
-if_none (Some x) P p = tt

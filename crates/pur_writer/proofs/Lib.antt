@@ -1,3 +1,4 @@
 pub mod EscapedLemmas
 pub mod TagLemmas
+pub mod ValueLemmas
 pub mod WrittenLemmas

@@ -1,37 +1,45 @@
 -- Tags are ASCII, so they are their own UTF-8.
-use Rattle.std.proofs.Common.{◌≡◌, ℕ, List, [], ◌∷◌, ◌++◌, encode_utf8_all, refl, ap, ◌∙◌, true, arith, codes}
+use Rattle.std.proofs.Common.{◌≡◌, ℕ, List, ◌++◌, encode_utf8_all, refl, ap, sym, ◌∙◌, append_assoc, true, codes}
 use Rattle.std.specs.Prelude.{nat_lt}
 use Rattle.std.specs.List.{list_all}
-use Rattle.std.proofs.lemmas.Bool.{and_parts, and_from}
-use Rattle.std.proofs.lemmas.Bool.Decides.{nat_tests}
+use Rattle.std.proofs.lemmas.Bool.{and_from}
 use Rattle.std.proofs.lemmas.List.Folds.{list_all-append}
-use Rattle.std.proofs.lemmas.Str.{encodes-append, encode_ascii}
+use Rattle.std.proofs.lemmas.Str.{encodes-append}
+use Rattle.pur_names.proofs.ElementLaws.{element_name-ascii}
+use Rattle.pur_laws.proofs.Texts.{encodes_past, is_ascii}
 use Rattle.pur_names.specs.declared.elements.Element.{Element}
 use Rattle.pur_names.specs.Elements.{element_name}
-use Rattle.pur_tree.specs.Spelling.{start_tag_of, end_tag_of, empty_tag_of}
-use Rattle.pur_tree.proofs.NameLemmas.{name_is_ascii}
+use Rattle.pur_tree.specs.Nodes.{PlainElem}
+use Rattle.pur_tree.specs.Spelling.{attributes_text, start_tag_of, end_tag_of, empty_tag_of}
 
-encode-ascii : (xs : List ℕ) → list_all (λ c. nat_lt c 128) xs ≡ true → encode_utf8_all xs ≡ xs
-encode-ascii [] all = refl
-encode-ascii (c ∷ xs) all =
-    let parts = and_parts (nat_lt c 128) (list_all (λ d. nat_lt d 128) xs) all in
-    let low : nat_lt c 128 ≡ true = parts.0 in
-    rw (encode_ascii c (grind (arith, nat_tests))) (ap (λ l. c ∷ l) (encode-ascii xs parts.1))
+-- a tag with attributes, and more: its brackets and its name are ASCII
+encode-tag : (end : List ℕ) (e : PlainElem) (more : List ℕ) → list_all is_ascii end ≡ true
+    → encode_utf8_all ((codes "<" ++ (element_name e.name ++ (attributes_text e.attrs ++ end))) ++ more)
+    ≡ (codes "<" ++ (element_name e.name ++ (encode_utf8_all (attributes_text e.attrs) ++ end))) ++ encode_utf8_all more
+encode-tag end e more low =
+    let name = element_name e.name in
+    let attrs = attributes_text e.attrs in
+    ap encode_utf8_all (regroup (codes "<") name attrs end more)
+    ∙ encodes_past (codes "<") (name ++ (attrs ++ (end ++ more))) refl
+    ∙ ap (λ l. codes "<" ++ l) (encodes_past name (attrs ++ (end ++ more)) (element_name-ascii e.name)
+    ∙ ap (λ l. name ++ l) (encodes-append attrs (end ++ more) ∙ ap (λ l. encode_utf8_all attrs ++ l) (encodes_past end more low)))
+    ∙ sym (regroup (codes "<") name (encode_utf8_all attrs) end (encode_utf8_all more))
+  where
+    regroup : (a b c d m : List ℕ) → (a ++ (b ++ (c ++ d))) ++ m ≡ a ++ (b ++ (c ++ (d ++ m)))
+    regroup a b c d m = simp append_assoc
 
--- brackets of ASCII round a name, and more
-encode-tag : (front back : List ℕ) (e : Element) (more : List ℕ) → list_all (λ c. nat_lt c 128) front ≡ true → list_all (λ c. nat_lt c 128) back ≡ true
-    → encode_utf8_all ((front ++ (element_name e ++ back)) ++ more) ≡ (front ++ (element_name e ++ back)) ++ encode_utf8_all more
-encode-tag front back e more p q =
-    let is_low = λ (c : ℕ). nat_lt c 128 in
-    let name_and_back : list_all is_low (element_name e ++ back) ≡ true = list_all-append is_low (element_name e) back ∙ and_from _ _ (name_is_ascii e) q in
-    let tag : list_all is_low (front ++ (element_name e ++ back)) ≡ true = list_all-append is_low front (element_name e ++ back) ∙ and_from _ _ p name_and_back in
-    encodes-append (front ++ (element_name e ++ back)) more ∙ ap (λ l. l ++ encode_utf8_all more) (encode-ascii (front ++ (element_name e ++ back)) tag)
+-- the bytes of a tag with attributes and this end
+abbrev pub tag_bytes : PlainElem → List ℕ → List ℕ
+tag_bytes e end = codes "<" ++ (element_name e.name ++ (encode_utf8_all (attributes_text e.attrs) ++ end))
 
-pub encode-start_tag : (e : Element) (more : List ℕ) → encode_utf8_all (start_tag_of e ++ more) ≡ start_tag_of e ++ encode_utf8_all more
-encode-start_tag e more = encode-tag (codes "<") (codes ">") e more refl refl
+pub encode-start_tag : (e : PlainElem) (more : List ℕ) → encode_utf8_all (start_tag_of e ++ more) ≡ tag_bytes e (codes ">") ++ encode_utf8_all more
+encode-start_tag e more = encode-tag (codes ">") e more refl
+
+pub encode-empty_tag : (e : PlainElem) (more : List ℕ) → encode_utf8_all (empty_tag_of e ++ more) ≡ tag_bytes e (codes " />") ++ encode_utf8_all more
+encode-empty_tag e more = encode-tag (codes " />") e more refl
 
 pub encode-end_tag : (e : Element) (more : List ℕ) → encode_utf8_all (end_tag_of e ++ more) ≡ end_tag_of e ++ encode_utf8_all more
-encode-end_tag e more = encode-tag (codes "</") (codes ">") e more refl refl
-
-pub encode-empty_tag : (e : Element) (more : List ℕ) → encode_utf8_all (empty_tag_of e ++ more) ≡ empty_tag_of e ++ encode_utf8_all more
-encode-empty_tag e more = encode-tag (codes "<") (codes " />") e more refl refl
+encode-end_tag e more =
+    let is_low = λ (c : ℕ). nat_lt c 128 in
+    let name_and_back : list_all is_low (element_name e ++ codes ">") ≡ true = list_all-append is_low (element_name e) (codes ">") ∙ and_from _ _ (element_name-ascii e) refl in
+    encodes_past (end_tag_of e) more (list_all-append is_low (codes "</") (element_name e ++ codes ">") ∙ and_from _ _ refl name_and_back)

@@ -1,10 +1,10 @@
-use Rattle.std.proofs.Common.{◌≡◌, [], string_bytes, arith}
+use Rattle.std.proofs.Common.{◌≡◌, [], string_bytes}
 use Rattle.std.specs.Str.{chars}
 use Rattle.pur_tree.specs.Image.{nodes_of}
 use Rattle.pur_tree.specs.Building.{text_nodes}
 use Rattle.pur_tree.specs.Nodes.{nodes_append}
 use Rattle.pur_tree.proofs.TextLemmas.{chars_of_none}
-use Rattle.pur_tree.proofs.BuildingLemmas.{IsBuilding-enter, IsBuilding-lost, written-enter, opened_by-more, length-opened_by}
+use Rattle.pur_tree.proofs.BuildingLemmas.{IsBuilding-enter, IsBuilding-lost, written-enter, opened_by-more}
 use Rattle.pur_tree.proofs.builder.Builder.enter.Goals as goal
 
 pub invariant_of-self : goal.invariant_of-self
@@ -29,7 +29,7 @@ invariant_of-self-2 c =
     rw (← c.replace-before.ensures.value, ← c.replace-text.ensures.value) c.in_ok-push_text.ensures.ok in
     rw (gone, chars_of_none _ none, c.in_ok-push.ensures.items)
     (IsBuilding-enter c.self.inside.outer.items _ c.self.inside.children.items (chars (string_bytes c.self.inside.text)) c.self.invariant
-    (let low = rw (← c.self.view_is) at c.requires.level in omega (arith, low, length-opened_by c.self.inside.outer.items)) (rw (← c.self.view_is) at c.requires.holds) same)
+    (rw (← c.self.view_is) at c.requires.level) (rw (← c.self.view_is) at c.requires.holds) same)
 
 pub returns-clause-written : goal.returns-clause-written
 returns-clause-written c =

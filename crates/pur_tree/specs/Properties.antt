@@ -1,0 +1,49 @@
+-- Properties of nodes at every depth.
+use Rattle.std.specs.Prelude.{List, ℕ, ◌≡◌, ◌≤◌, ◌<◌, Bool, true, false, length}
+use Rattle.std.specs.List.{list_all}
+use Rattle.pur_text.specs.Characters.{is_allowed}
+use Rattle.pur_names.specs.declared.elements.Element.{Element}
+use Rattle.pur_modules.specs.Contents.{is_empty_element}
+use Rattle.pur_tree.specs.Nodes.{PlainElem, Nodes, no_nodes, text_first, elem_first}
+use Rattle.pur_tree.specs.Places as places
+use Rattle.pur_tree.specs.Spelling.{are_spellable}
+
+-- what is asked of each text and of each element where they stand, and where the children of an element of this name stand
+pub record Property : Type 1 where
+  pub Where : Type 0
+  pub text : Where → List ℕ → Type 0
+  pub elem : Where → PlainElem → Type 0
+  pub inside : Where → Element → Where
+
+-- what is asked holds of all nodes at every depth
+abbrev pub Holds : (q : Property) → q.Where → Nodes → Type 0
+Holds q w no_nodes = Unit {0}
+Holds q w (text_first s rest) = q.text w s × Holds q w rest
+Holds q w (elem_first e kids rest) = q.elem w e × Holds q (q.inside w e.name) kids × Holds q w rest
+
+-- no level passes the limit
+abbrev pub levels : ℕ → Property
+levels limit = record {
+  Where = places.Place;
+  text = λ at s. Unit {0};
+  elem = λ at e. (places.inside at e.name).level ≤ limit;
+  inside = λ at e. places.inside at e;
+}
+
+-- no text is empty, and EMPTY elements have no children; what is known from outside is whether the parent is EMPTY
+abbrev pub soundness : Property
+soundness = record {
+  Where = Bool;
+  text = λ closed s. (closed ≡ false) × (0 < length s);
+  elem = λ closed e. closed ≡ false;
+  inside = λ closed e. is_empty_element e;
+}
+
+-- texts have allowed characters alone, and the attributes of each element may stand in a tag
+abbrev pub spellable : Property
+spellable = record {
+  Where = Unit {0};
+  text = λ at s. list_all is_allowed s ≡ true;
+  elem = λ at e. are_spellable e.attrs ≡ true;
+  inside = λ at e. tt;
+}
