@@ -1,3 +1,5 @@
 pub mod SetLemmas
-pub mod AttrLemmas
+pub mod ListLemmas
 pub mod ReadingLemmas
+pub mod WalkLemmas
+pub mod OffenceLemmas

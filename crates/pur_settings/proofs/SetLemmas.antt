@@ -11,8 +11,9 @@ use Rattle.pur_names.specs.Elements.{all_elements, element_rank, same_element}
 use Rattle.pur_names.proofs.ElementLaws.{same_element-Decides, all_elements-rank}
 use Rattle.pur_names.specs.declared.elements.Element.{Element}
 use Rattle.pur_modules.specs.Groups.{is_among}
-use Rattle.pur_settings.specs.Reading.{Answer, answer_map}
-use Rattle.pur_settings.specs.Sets.{in_order, with_element, is_held, elements_held}
+use Rattle.pur_settings.specs.Reading.{Reading, reading_map}
+use Rattle.pur_settings.specs.Private.Sets.{with_element, is_held, elements_held}
+use Rattle.pur_settings.specs.Table.{in_order}
 
 same_by_test : (p : Element → Bool) (y k : Element) → same_element y k ≡ true → p k ≡ p y
 same_by_test p y k same = ap p (sym ((same_element-Decides y k).0 same))
@@ -69,9 +70,9 @@ with-more e set more =
     filter_agree (is_among (with_element e set ++ more)) (is_among (set ++ e ∷ more)) (λ x. with-more-at e set more x) all_elements
 
 -- the same where what follows may be an offence
-pub one-more : (e : Element) (set : List Element) (rest : Answer (List Element))
-    → answer_map (λ more. in_order (with_element e set ++ more)) rest
-    ≡ answer_map (λ more. in_order (set ++ more)) (answer_map (λ values. e ∷ values) rest)
+pub one-more : (e : Element) (set : List Element) (rest : Reading (List Element))
+    → reading_map (λ more. in_order (with_element e set ++ more)) rest
+    ≡ reading_map (λ more. in_order (set ++ more)) (reading_map (λ values. e ∷ values) rest)
 one-more e set (Ok more) = ap Ok (with-more e set more)
 one-more e set (Err fault) = refl
 

@@ -1,4 +1,6 @@
-pub mod Keys
-pub mod Sets
 pub mod Rules
 pub mod Reading
+pub mod Table
+pub mod Offences
+pub mod Settings
+pub mod Private

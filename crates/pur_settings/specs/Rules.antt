@@ -2,69 +2,94 @@
 use Rattle.std.specs.Prelude.{ℕ, Bool, true, false, List, [], Option, Some, None, not, ◌&&◌, ◌||◌}
 use Rattle.std.specs.List.{list_any}
 use Rattle.pur_names.specs.Attributes.{same_attr}
+use Rattle.pur_names.specs.Elements.{element_named, same_element}
+use Rattle.pur_names.specs.Properties.{same_prop}
+use Rattle.pur_names.specs.Schemes.{same_scheme}
 use Rattle.pur_names.specs.declared.attributes.Attr.{Attr}
-use Rattle.pur_names.specs.declared.attributes.Attr.TheVariants.{Id}
+use Rattle.pur_names.specs.declared.attributes.Attr.TheVariants.{Id, Lang, XmlLang}
 use Rattle.pur_names.specs.declared.elements.Element.{Element}
 use Rattle.pur_names.specs.declared.properties.StyleProp.{StyleProp}
 use Rattle.pur_names.specs.declared.schemes.SchemeName.{SchemeName}
-use Rattle.pur_modules.specs.AttributeLists.{attributes_of}
+use Rattle.pur_modules.specs.AttributeLists.{attributes_of, required_of}
 use Rattle.pur_modules.specs.Groups.{is_among, elements_of}
 use Rattle.pur_modules.specs.declared.kinds.Content.{Content}
 use Rattle.pur_modules.specs.declared.kinds.Content.TheVariants.{Flow}
 use Rattle.pur_modules.specs.declared.kinds.Doctype.{Doctype}
 use Rattle.pur_modules.specs.declared.kinds.Doctype.TheVariants.{Transitional}
 
--- the doctype, and the elements that are listed, each once and in the order of their names; none is listed for all
+-- the member of each key, in the order of the keys; a list that a text lacks is no list, which permits all of its sort
 pub record Rules : Type 0 where
+  pub attributes : Option (List Attr)
+  pub auto_paragraph : Bool
+  pub denied_hosts : List (List ℕ)
   pub doctype : Doctype
+  -- each element once, in the order of their names
   pub elements : Option (List Element)
+  pub external : Bool
+  pub host : Option (List ℕ)
+  pub id_prefix : List ℕ
+  pub ids : Bool
+  pub linkify : Bool
+  pub parent : Content
+  pub properties : Option (List StyleProp)
+  pub schemes : Option (List SchemeName)
 
 -- the settings of a site that sets nothing
 abbrev pub default_rules : Rules
-default_rules = record { doctype = Transitional; elements = None }
+default_rules = record {
+  attributes = None;
+  auto_paragraph = false;
+  denied_hosts = [];
+  doctype = Transitional;
+  elements = None;
+  external = true;
+  host = None;
+  id_prefix = [];
+  ids = false;
+  linkify = false;
+  parent = Flow;
+  properties = None;
+  schemes = None;
+}
 
--- whether an element is listed; without a list all are
-abbrev pub is_listed : Option (List Element) → Element → Bool
-is_listed None element = true
-is_listed (Some elements) element = is_among elements element
+-- whether a list has something that passes a test; where there is no list, all is permitted
+abbrev pub is_listed : {A : Type 0} → Option (List A) → (A → Bool) → Bool
+is_listed None test = true
+is_listed (Some list) test = list_any test list
 
 -- whether an element may stand in what the filter writes: the doctype has it, and it is listed
 abbrev pub permits_element : Rules → Element → Bool
-permits_element rules element = is_among (elements_of rules.doctype) element && is_listed rules.elements element
+permits_element rules element = is_among (elements_of rules.doctype) element && is_listed rules.elements (same_element element)
 
--- whether elements may have an `id`
-abbrev pub has_ids : Rules → Bool
-has_ids rules = false
+-- whether the element that was found for a name, if one was, may stand there
+abbrev pub permits_found : Rules → Option Element → Bool
+permits_found rules None = false
+permits_found rules (Some element) = permits_element rules element
 
--- whether the doctype declares the attribute on the element; `id` only where elements may have one
+-- whether a name is that of an element that may
+abbrev pub permits_name : Rules → List ℕ → Bool
+permits_name rules name = permits_found rules (element_named name)
+
+-- whether an attribute is `lang` or `xml:lang`
+abbrev pub is_language : Attr → Bool
+is_language attr = same_attr attr Lang || same_attr attr XmlLang
+
+-- whether an attribute is meant by one of a list: it is that one, or the two are `lang` and `xml:lang`
+abbrev pub is_meant : Attr → Attr → Bool
+is_meant attr listed = same_attr attr listed || (is_language attr && is_language listed)
+
+-- whether an attribute may stand on an element: the doctype declares it there, and it is listed or required there; `id`
+-- only where elements may have one
 abbrev pub permits_attribute : Rules → Element → Attr → Bool
 permits_attribute rules element attr =
-    list_any (same_attr attr) (attributes_of rules.doctype element) && (not (same_attr attr Id) || has_ids rules)
+    list_any (same_attr attr) (attributes_of rules.doctype element)
+    && (is_listed rules.attributes (is_meant attr) || list_any (same_attr attr) (required_of element))
+    && (not (same_attr attr Id) || rules.ids)
 
--- whether a property of CSS may stand in a style: all may
+-- whether a property of CSS may stand in a style
 abbrev pub permits_property : Rules → StyleProp → Bool
-permits_property rules property = true
+permits_property rules property = is_listed rules.properties (same_prop property)
 
--- whether a URI may have a scheme: all may
+-- whether a URI may have a scheme
 abbrev pub permits_a_scheme : Rules → SchemeName → Bool
-permits_a_scheme rules scheme = true
-
--- what may stand directly in the fragment: what a `div` holds
-abbrev pub content_of_fragment : Rules → Content
-content_of_fragment rules = Flow
-
--- what stands in front of each `id`: nothing
-abbrev pub prefix_of_ids : Rules → List ℕ
-prefix_of_ids rules = []
-
--- whether the filter makes links of the URIs in texts
-abbrev pub makes_links : Rules → Bool
-makes_links rules = false
-
--- whether the filter makes paragraphs of texts
-abbrev pub makes_paragraphs : Rules → Bool
-makes_paragraphs rules = false
-
--- whether URIs may lead to other hosts
-abbrev pub permits_external : Rules → Bool
-permits_external rules = true
+permits_a_scheme rules scheme = is_listed rules.schemes (same_scheme scheme)

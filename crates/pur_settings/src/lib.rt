@@ -6,7 +6,6 @@
 
 mod element_table;
 mod faults;
-mod keys;
 mod reading;
 mod site_settings;
 #[cfg(test)]

@@ -1,58 +1,73 @@
 //! Reading settings out of a TOML table, key by key.
 
-ghost use Rattle.std.specs.Prelude.{◌≡◌};
+ghost use Rattle.std.specs.Prelude.{◌≡◌, pos};
+ghost use Rattle.std.specs.Option.{ok_or};
+ghost use Rattle.std.specs.Ordering.{int_eq};
+ghost use Rattle.toml.specs.Data.{as_str, as_array};
 ghost use Rattle.toml.specs.View.{view, array_view, table_view};
-ghost use Rattle.pur_settings.specs.Reading.{answer_map, text_of, items_of, number_of, text_in, number_in, list_in, doctype_named, element_of, is_version, with_value, with_member, with_members};
+ghost use Rattle.pur_settings.specs.Private.Walk.{Ascends, with_member, with_members};
+ghost use Rattle.pur_settings.specs.Reading.{reading_map, text_in, list_in, number_in};
 ghost use Rattle.pur_settings.specs.Rules.{default_rules};
-ghost use Rattle.pur_settings.specs.Sets.{in_order};
+ghost use Rattle.pur_settings.specs.Settings.{doctype_in, settings_in};
+ghost use Rattle.pur_settings.specs.Table.{content_in_parent, doctype_named, element_of, in_order, table_for};
 
 use crate::element_table::ElementTable;
 use crate::faults::SettingsFault;
-use crate::keys::Key;
 use crate::site_settings::Settings;
-use pur_modules::{Doctype, declares};
+use pur_modules::{Content, Doctype, declares};
 use pur_names::Element;
 use toml::{Table, Value};
 
-// The settings that a table gives: its keys in the order of their bytes, which is the table's own.
+// The settings that a table gives.
 pub(crate) fn read_table(table: &Table) -> Result<Settings, SettingsFault>
-    ensures { result ≡ with_members (table_view table.now) default_rules }
+    ensures { result ≡ settings_in (table_view table.now) }
+{
+    let doctype = find_doctype(table);
+    read_members(table, doctype)
+}
+
+// The settings with the value of each member, one after another in the order of their keys' bytes, which is the table's
+// own. What the value of one key depends on beside itself was looked up before.
+fn read_members(table: &Table, doctype: Doctype) -> Result<Settings, SettingsFault>
+    ensures value { result ≡ with_members (table_for doctype) (table_view table.now) default_rules }
+    ensures ordered { Ascends (table_view table.now) }
 {
     let mut settings = Settings::defaults();
     for (name, value) in table.iter() {
-        settings = read_member(settings, name.as_str(), value)?;
+        read_member(&mut settings, doctype, name.as_str(), value)?;
     }
     Ok(settings)
 }
 
-// The settings with the value of the key of this name.
-fn read_member(settings: Settings, name: &str, value: &Value) -> Result<Settings, SettingsFault>
-    ensures { result ≡ with_member settings name.now (view value.now) }
+// The doctype that a table names; the default where it names none.
+fn find_doctype(table: &Table) -> Doctype
+    ensures { result ≡ doctype_in (table_view table.now) }
 {
-    match Key::from_name(name) {
-        Some(key) => read_value(settings, key, value),
-        None => Err(SettingsFault::UnknownKey),
+    match table.get("doctype") {
+        Some(value) => read_doctype(value).unwrap_or(Doctype::Transitional),
+        None => Doctype::Transitional,
     }
 }
 
-// The settings with the value of one key.
-fn read_value(settings: Settings, key: Key, value: &Value) -> Result<Settings, SettingsFault>
-    ensures { result ≡ with_value settings (view value.now) key }
+// Puts the value of the key of this name into the settings.
+fn read_member(
+    settings: &mut Settings,
+    doctype: Doctype,
+    name: &str,
+    value: &Value,
+) -> Result<(), SettingsFault>
+    ensures { reading_map (λ _. settings.new) result ≡ with_member (table_for doctype) settings.old name.now (view value.now) }
 {
-    match key {
-        Key::Doctype => {
-            let doctype = read_doctype(value)?;
-            Ok(settings.with_doctype(doctype))
-        }
-        Key::Elements => {
-            let elements = read_elements(settings.doctype(), value)?;
-            Ok(settings.with_elements(elements))
-        }
-        Key::Version => {
+    match name {
+        "doctype" => settings.set_doctype(read_doctype(value)?),
+        "elements" => settings.set_elements(read_elements(doctype, value)?),
+        "parent" => settings.set_parent(read_parent(value)?),
+        "version" => {
             read_version(value)?;
-            Ok(settings)
         }
+        _ => return Err(SettingsFault::UnknownKey),
     }
+    Ok(())
 }
 
 // The doctype that a value names.
@@ -66,9 +81,20 @@ fn read_doctype(value: &Value) -> Result<Doctype, SettingsFault>
     }
 }
 
+// What the fragment may hold in the parent that a value names.
+fn read_parent(value: &Value) -> Result<Content, SettingsFault>
+    ensures { result ≡ text_in content_in_parent (view value.now) }
+{
+    match read_text(value)? {
+        "div" => Ok(Content::Flow),
+        "span" => Ok(Content::Inline),
+        _ => Err(SettingsFault::UnknownName),
+    }
+}
+
 // The elements of a doctype that a list names.
 fn read_elements(doctype: Doctype, value: &Value) -> Result<ElementTable, SettingsFault>
-    ensures { result ≡ answer_map in_order (list_in (element_of doctype) (view value.now)) }
+    ensures { result ≡ reading_map in_order (list_in (element_of doctype) (view value.now)) }
 {
     let mut elements = ElementTable::new();
     for item in read_items(value)? {
@@ -90,7 +116,7 @@ fn read_element(doctype: Doctype, value: &Value) -> Result<Element, SettingsFaul
 
 // The version that a value is.
 fn read_version(value: &Value) -> Result<i64, SettingsFault>
-    ensures { result ≡ number_in is_version (view value.now) }
+    ensures { result ≡ number_in (int_eq (pos 1)) (view value.now) }
 {
     match value.as_integer() {
         Some(number) if number == 1 => Ok(number),
@@ -101,20 +127,14 @@ fn read_version(value: &Value) -> Result<i64, SettingsFault>
 
 // The text that a value is.
 fn read_text(value: &Value) -> Result<&str, SettingsFault>
-    ensures { answer_map (λ text. text.now) result ≡ text_of (view value.now) }
+    ensures { reading_map (λ text. text.now) result ≡ ok_or (as_str (view value.now)) SettingsFault.WrongKind }
 {
-    match value.as_str() {
-        Some(text) => Ok(text),
-        None => Err(SettingsFault::WrongKind),
-    }
+    value.as_str().ok_or(SettingsFault::WrongKind)
 }
 
 // The list that a value is.
 fn read_items(value: &Value) -> Result<&Vec<Value>, SettingsFault>
-    ensures { answer_map (λ items. array_view items.now) result ≡ items_of (view value.now) }
+    ensures { reading_map (λ items. array_view items.now) result ≡ ok_or (as_array (view value.now)) SettingsFault.WrongKind }
 {
-    match value.as_array() {
-        Some(items) => Ok(items),
-        None => Err(SettingsFault::WrongKind),
-    }
+    value.as_array().ok_or(SettingsFault::WrongKind)
 }

@@ -1,15 +1,17 @@
 //! The settings of a site.
 
-ghost use Rattle.std.specs.Prelude.{◌≡◌, ◌≢◌, ◌≤◌, ◌^◌, length, [], None, Some, Err};
+ghost use Rattle.std.specs.Prelude.{◌≡◌, ◌≢◌, ◌≤◌, ◌^◌, length, map, Some, Err, IfErr, option_copied, string_bytes};
 ghost use Rattle.std.specs.List.{list_any};
 ghost use Rattle.pur_names.specs.Attributes.{same_attr};
-ghost use Rattle.pur_settings.specs.Reading.{settings_of};
-ghost use Rattle.pur_settings.specs.Rules.{default_rules, permits_element, permits_attribute, permits_property, permits_a_scheme, content_of_fragment, has_ids, prefix_of_ids, makes_links, makes_paragraphs, permits_external};
+ghost use Rattle.pur_names.specs.Properties.{same_prop};
+ghost use Rattle.pur_names.specs.Schemes.{same_scheme};
+ghost use Rattle.pur_settings.specs.Rules.{default_rules, permits_element, is_language, is_meant, permits_attribute, permits_property, permits_a_scheme};
+ghost use Rattle.pur_settings.specs.Settings.{settings_of, IsRefusedFor};
 
 use crate::element_table::ElementTable;
 use crate::faults::SettingsFault;
 use crate::reading::read_table;
-use pur_modules::{Content, Doctype, attributes, declares};
+use pur_modules::{Content, Doctype, attributes, declares, required};
 use pur_names::{Attr, Element, SchemeName, StyleProp};
 use std::alloc::Global;
 use std::marker::Model;
@@ -17,17 +19,43 @@ use std::marker::Model;
 /// What a site configures. Contracts see the record of what the settings say.
 #[derive(Drop)]
 pub struct Settings {
+    attributes: Option<Vec<Attr>>,
+    auto_paragraph: bool,
+    denied_hosts: Option<Vec<String>>,
     doctype: Doctype,
     elements: Option<ElementTable>,
+    external: bool,
+    host: Option<String>,
+    id_prefix: Option<String>,
+    ids: bool,
+    linkify: bool,
+    parent: Content,
+    properties: Option<Vec<StyleProp>>,
+    schemes: Option<Vec<SchemeName>>,
 }
 
 impl Model for Settings {
-    ghost use Rattle.std.specs.Prelude.{};
+    ghost use Rattle.std.specs.Prelude.{option_map, string_bytes};
     ghost use Rattle.pur_settings.specs.Rules.{Rules};
+    ghost use Rattle.pur_settings.specs.Private.Texts.{text_held, texts_held};
 
     ghost Value = { Rules };
 
-    ghost view = { λ settings. record { doctype = settings.doctype; elements = settings.elements } };
+    ghost view = { λ settings. record {
+      attributes = option_map (λ attrs. attrs.items) settings.attributes;
+      auto_paragraph = settings.auto_paragraph;
+      denied_hosts = texts_held settings.denied_hosts;
+      doctype = settings.doctype;
+      elements = settings.elements;
+      external = settings.external;
+      host = option_map string_bytes settings.host;
+      id_prefix = text_held settings.id_prefix;
+      ids = settings.ids;
+      linkify = settings.linkify;
+      parent = settings.parent;
+      properties = option_map (λ properties. properties.items) settings.properties;
+      schemes = option_map (λ schemes. schemes.items) settings.schemes;
+    } };
 }
 
 impl Settings {
@@ -38,8 +66,19 @@ impl Settings {
         ensures { result ≡ default_rules }
     {
         Settings {
+            attributes: None,
+            auto_paragraph: false,
+            denied_hosts: None,
             doctype: Doctype::Transitional,
             elements: None,
+            external: true,
+            host: None,
+            id_prefix: None,
+            ids: false,
+            linkify: false,
+            parent: Content::Flow,
+            properties: None,
+            schemes: None,
         }
     }
 
@@ -49,7 +88,8 @@ impl Settings {
     /// Fails at the first offence in the order of the keys' bytes, and where memory is wanting.
     pub fn read(alloc: Global, text: &[u8]) -> Result<Settings, SettingsFault>
         requires { length text.now ≤ 2 ^ 16 }
-        ensures { result ≢ Err SettingsFault.Memory → result ≡ settings_of text.now }
+        ensures value { result ≢ Err SettingsFault.Memory → result ≡ settings_of text.now }
+        ensures first { IfErr result (λ fault. fault ≢ SettingsFault.Memory → fault ≢ SettingsFault.NotToml → IsRefusedFor text.now fault) }
     {
         match toml::table_from_slice(alloc, text) {
             Ok(table) => read_table(&table),
@@ -81,108 +121,167 @@ impl Settings {
         self.doctype
     }
 
-    /// Whether the attribute may stand on the element: the doctype declares it there, and an `id` also needs `ids`.
+    /// Whether the attribute may stand on the element: the doctype declares it there, and the text's list, if there is
+    /// one, has it, or the element needs it. `lang` and `xml:lang` stand for each other in the list, and an `id` also
+    /// needs `ids`.
     pub fn permits_attr(&self, element: Element, attr: Attr) -> bool
         ensures { result ≡ permits_attribute self.now element attr }
     {
-        let declared = is_declared(attributes(self.doctype, element), attr);
-        declared && (attr != Attr::Id || self.ids())
+        let declared = has_attr(attributes(self.doctype, element), attr);
+        let listed = match &self.attributes {
+            Some(attrs) => lists_attr(attrs.as_slice(), attr),
+            None => true,
+        };
+        let wanted = listed || has_attr(required(element), attr);
+        declared && wanted && (attr != Attr::Id || self.ids)
     }
 
-    /// Whether the property may stand in a style. All may.
-    pub fn permits_prop(&self, _property: StyleProp) -> bool
-        ensures { result ≡ permits_property self.now _property }
+    /// Whether the property may stand in a style: the text's list, if there is one, has it.
+    pub fn permits_prop(&self, property: StyleProp) -> bool
+        ensures { result ≡ permits_property self.now property }
     {
-        true
+        match &self.properties {
+            Some(properties) => has_prop(properties.as_slice(), property),
+            None => true,
+        }
     }
 
-    /// Whether a URI may have the scheme. All may.
-    pub fn permits_scheme(&self, _scheme: SchemeName) -> bool
-        ensures { result ≡ permits_a_scheme self.now _scheme }
+    /// Whether a URI may have the scheme: the text's list, if there is one, has it.
+    pub fn permits_scheme(&self, scheme: SchemeName) -> bool
+        ensures { result ≡ permits_a_scheme self.now scheme }
     {
-        true
+        match &self.schemes {
+            Some(schemes) => has_scheme(schemes.as_slice(), scheme),
+            None => true,
+        }
     }
 
-    /// What may stand directly in the fragment: what a `div` holds.
+    /// What may stand directly in the fragment: what a `div` holds, or what a `span` holds.
     pub fn parent(&self) -> Content
-        ensures { result ≡ content_of_fragment self.now }
+        ensures { result ≡ self.now.parent }
     {
-        Content::Flow
+        self.parent
     }
 
-    /// Whether elements may have an `id`. They may not.
+    /// Whether elements may have an `id`.
     pub fn ids(&self) -> bool
-        ensures { result ≡ has_ids self.now }
+        ensures { result ≡ self.now.ids }
     {
-        false
+        self.ids
     }
 
-    /// What stands in front of each `id`: nothing.
+    /// What stands in front of each `id`.
     pub fn id_prefix(&self) -> &str
-        ensures { result.now ≡ prefix_of_ids self.now }
+        ensures { result.now ≡ self.now.id_prefix }
     {
-        ""
+        match &self.id_prefix {
+            Some(prefix) => prefix.as_str(),
+            None => "",
+        }
     }
 
-    /// Whether the filter makes links of the URIs in texts. It doesn't.
+    /// Whether the filter makes links of the URIs in texts.
     pub fn linkify(&self) -> bool
-        ensures { result ≡ makes_links self.now }
+        ensures { result ≡ self.now.linkify }
     {
-        false
+        self.linkify
     }
 
-    /// Whether the filter makes paragraphs of texts. It doesn't.
+    /// Whether the filter makes paragraphs of texts.
     pub fn auto_paragraph(&self) -> bool
-        ensures { result ≡ makes_paragraphs self.now }
+        ensures { result ≡ self.now.auto_paragraph }
     {
-        false
+        self.auto_paragraph
     }
 
-    /// The hosts to which no URI may lead. There are none.
+    /// The hosts to which no URI may lead, themselves and below them.
     pub fn denied_hosts(&self) -> &[String]
-        ensures { result.now ≡ [] }
+        ensures { map string_bytes result.now ≡ self.now.denied_hosts }
     {
-        &[]
+        match &self.denied_hosts {
+            Some(hosts) => hosts.as_slice(),
+            None => &[],
+        }
     }
 
-    /// The site's own host. None is told.
+    /// The site's own host, if it is told.
     pub fn host(&self) -> Option<&str>
-        ensures { result ≡ None }
+        ensures { option_copied result ≡ self.now.host }
     {
-        None
+        match &self.host {
+            Some(host) => Some(host.as_str()),
+            None => None,
+        }
     }
 
-    /// Whether URIs may lead to other hosts than the site's own. They may.
+    /// Whether URIs may lead to other hosts than the site's own.
     pub fn external(&self) -> bool
-        ensures { result ≡ permits_external self.now }
+        ensures { result ≡ self.now.external }
     {
-        true
+        self.external
     }
 
-    // The same with another doctype.
-    pub(crate) fn with_doctype(self, doctype: Doctype) -> Settings
-        ensures { result ≡ record self { doctype = doctype } }
+    // Sets the doctype.
+    pub(crate) fn set_doctype(&mut self, doctype: Doctype)
+        ensures { self.new ≡ record self.old { doctype = doctype } }
     {
-        Settings {
-            doctype,
-            elements: self.elements,
-        }
+        self.doctype = doctype;
     }
 
-    // The same with a list of elements.
-    pub(crate) fn with_elements(self, elements: ElementTable) -> Settings
-        ensures { result ≡ record self { elements = Some elements } }
+    // Sets the list of elements.
+    pub(crate) fn set_elements(&mut self, elements: ElementTable)
+        ensures { self.new ≡ record self.old { elements = Some elements } }
     {
-        Settings {
-            doctype: self.doctype,
-            elements: Some(elements),
-        }
+        self.elements = Some(elements);
+    }
+
+    // Sets what the fragment may hold.
+    pub(crate) fn set_parent(&mut self, parent: Content)
+        ensures { self.new ≡ record self.old { parent = parent } }
+    {
+        self.parent = parent;
     }
 }
 
+// Whether a list has an attribute that stands for this one.
+fn lists_attr(attrs: &[Attr], attr: Attr) -> bool
+    ensures { result ≡ list_any (is_meant attr) attrs.now }
+{
+    attrs.iter().any(|listed| stands_for(*listed, attr))
+}
+
+// Whether an attribute of a list stands for this one: it is this one, or the two are `lang` and `xml:lang`.
+#[tactic(auto, using(crate::proofs::ListLemmas::same_attrs))]
+fn stands_for(listed: Attr, attr: Attr) -> bool
+    ensures { result ≡ is_meant attr listed }
+{
+    listed == attr || is_lang(listed) && is_lang(attr)
+}
+
+// Whether the attribute is `lang` or `xml:lang`.
+fn is_lang(attr: Attr) -> bool
+    ensures { result ≡ is_language attr }
+{
+    matches!(attr, Attr::Lang | Attr::XmlLang)
+}
+
 // Whether the attribute is in the list.
-fn is_declared(attrs: &[Attr], attr: Attr) -> bool
+fn has_attr(attrs: &[Attr], attr: Attr) -> bool
     ensures { result ≡ list_any (same_attr attr) attrs.now }
 {
-    attrs.contains(&attr)
+    attrs.iter().any(|listed| *listed == attr)
+}
+
+// Whether the property is in the list.
+fn has_prop(properties: &[StyleProp], property: StyleProp) -> bool
+    ensures { result ≡ list_any (same_prop property) properties.now }
+{
+    properties.iter().any(|listed| *listed == property)
+}
+
+// Whether the scheme is in the list.
+fn has_scheme(schemes: &[SchemeName], scheme: SchemeName) -> bool
+    ensures { result ≡ list_any (same_scheme scheme) schemes.now }
+{
+    schemes.contains(&scheme)
 }

@@ -1,8 +1,8 @@
 use Rattle.std.proofs.Common.{◌∙◌, ◌≡◌, sym, ap, Ok, drop, arith, ◌+◌, ◌∷◌, ◌++◌}
 use Rattle.std.proofs.lemmas.List.{drop_more}
 use Rattle.toml.specs.View.{view, items_view}
-use Rattle.pur_settings.specs.Reading.{answer_map, texts_in, element_of}
-use Rattle.pur_settings.specs.Sets.{in_order}
+use Rattle.pur_settings.specs.Reading.{reading_map, items_in}
+use Rattle.pur_settings.specs.Table.{element_of, in_order}
 use Rattle.pur_settings.proofs.ReadingLemmas.{list-begun, list-past}
 use Rattle.pur_settings.proofs.SetLemmas.{in_order-none, in_order-twice}
 use Rattle.pur_settings.proofs.reading.read_elements.Goals as goal
@@ -27,6 +27,6 @@ loop-item-preserved c =
           list-past (element_of c.args.doctype) (view c.item-item.result) (items_view (drop (c.loop-item.item-index + 1) c.deref-item-items.result.now))
           c.in_ok-element.element c.loop-item.elements c.insert.new.self
           (sym (c.in_ok-element.ensures)) c.insert.ensures
-          ∙ ap (λ values. answer_map (λ more. in_order (c.loop-item.elements ++ more)) (texts_in (element_of c.args.doctype) (items_view values))) next
+          ∙ ap (λ values. reading_map (λ more. in_order (c.loop-item.elements ++ more)) (items_in (element_of c.args.doctype) (items_view values))) next
           ∙ c.loop-item.invariant.whole;
     }

@@ -5,6 +5,6 @@ use Rattle.pur_settings.proofs.element_table.ElementTable.insert.Goals as goal
 
 pub returns : goal.returns
 returns c =
-    let within : element_rank c.args.element < 60 = rw (← c.place.ensures.value) c.place.ensures.within in
-    rw (← c.self.view_is, c.place.ensures.value)
+    let within : element_rank c.args.element < 60 = rw (← c.rank.ensures.number) c.rank.ensures.within in
+    rw (← c.self.view_is, c.rank.ensures.number)
     (held-with c.self.inside.holds c.args.element (rw c.self.told within))

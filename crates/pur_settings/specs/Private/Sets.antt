@@ -1,13 +1,9 @@
--- Sets of elements, as the list of their members in the order of their names.
+-- A set of elements as the list of its members in the order of their names, and as a table of truth values.
 use Rattle.std.specs.Prelude.{Bool, false, List, ◌∷◌, slice_index_or}
 use Rattle.std.specs.List.{filter}
 use Rattle.pur_names.specs.Elements.{all_elements, element_rank}
 use Rattle.pur_names.specs.declared.elements.Element.{Element}
-use Rattle.pur_modules.specs.Groups.{is_among}
-
--- the elements of a list, each once, in the order of their names
-unfoldable pub in_order : List Element → List Element
-in_order elements = filter (is_among elements) all_elements
+use Rattle.pur_settings.specs.Table.{in_order}
 
 -- a set with one more element
 abbrev pub with_element : Element → List Element → List Element

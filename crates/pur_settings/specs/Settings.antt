@@ -1,0 +1,60 @@
+-- The settings that a TOML document gives, each found by its key, or its first offence.
+use Rattle.std.specs.Prelude.{◌≡◌, ℕ, List, Option, Some, None, Ok, Err, if◌then◌else◌, codes}
+use Rattle.std.specs.List.{fold}
+use Rattle.std.specs.Option.{ok_or, option_and_then, option_map_or}
+use Rattle.std.specs.Result.{result_ok, result_unwrap_or}
+use Rattle.std.specs.Str.{is_utf8}
+use Rattle.toml.specs.Data.{Data, Members, get_member}
+use Rattle.toml.specs.Parse.{parse_document}
+use Rattle.pur_modules.specs.declared.kinds.Doctype.{Doctype}
+use Rattle.pur_settings.specs.Offences.{Offence, offences, first_of, IsFirst}
+use Rattle.pur_settings.specs.Reading.{Reading, and_then, text_in}
+use Rattle.pur_settings.specs.Rules.{Rules, default_rules}
+use Rattle.pur_settings.specs.Table.{Row, doctype_named, table_for}
+use Rattle.pur_settings.specs.declared.faults.SettingsFault.{SettingsFault}
+use Rattle.pur_settings.specs.declared.faults.SettingsFault.TheVariants.{NotToml}
+
+-- what a document says by a row: nothing where it lacks the key, or its value has an offence
+abbrev pub said_by : Row → Members → Option (Rules → Rules)
+said_by row whole = option_and_then (λ value. result_ok (row.says value)) (get_member row.key whole)
+
+-- settings, changed as a document says by a row
+abbrev pub with_row : Members → Rules → Row → Rules
+with_row whole rules row = option_map_or (λ change. change rules) (said_by row whole) rules
+
+-- the settings that a document gives by the rows of a table: the defaults, changed as it says by each
+abbrev pub rules_in : List Row → Members → Rules
+rules_in table whole = fold (with_row whole) default_rules table
+
+-- the doctype that a value names, if it is there and names one; else the default
+abbrev pub doctype_by : Option Data → Doctype
+doctype_by found = option_map_or (λ value. result_unwrap_or (text_in doctype_named value) default_rules.doctype) found default_rules.doctype
+
+-- the doctype that a document gives
+abbrev pub doctype_in : Members → Doctype
+doctype_in whole = doctype_by (get_member (codes "doctype") whole)
+
+-- the keys that a document may have: those of the one version of the table
+abbrev pub table_in : Members → List Row
+table_in whole = table_for (doctype_in whole)
+
+-- the settings, unless there is an offence
+abbrev pub unless_offence : Option Offence → Rules → Reading Rules
+unless_offence None rules = Ok rules
+unless_offence (Some offence) rules = Err offence.1
+
+-- the settings that a document gives, or its first offence
+abbrev pub settings_in : Members → Reading Rules
+settings_in whole = unless_offence (first_of (offences (table_in whole) whole)) (rules_in (table_in whole) whole)
+
+-- the document that bytes are; bytes that aren't UTF-8 are none
+abbrev pub document : List ℕ → Option Members
+document text = if is_utf8 text then parse_document text else None
+
+-- the settings that a text gives, or its first offence
+unfoldable pub settings_of : List ℕ → Reading Rules
+settings_of text = and_then (ok_or (document text) NotToml) settings_in
+
+-- the text is a document and the fault that of its first offence: a member has it, and no member whose key is less has one
+abbrev pub IsRefusedFor : List ℕ → SettingsFault → Type 0
+IsRefusedFor text fault = (whole : Members) × (document text ≡ Some whole) × IsFirst (offences (table_in whole) whole) fault
