@@ -1,0 +1,70 @@
+-- The laws of closing.
+use Rattle.std.specs.Prelude.{ℕ, ◌+◌, ◌≤◌, ◌≡◌, true, List, [], map, length}
+use Rattle.std.specs.List.{list_all}
+use Rattle.pur_names.specs.Elements.{element_name}
+use Rattle.pur_tokens.specs.Tokens as read
+use Rattle.pur_settings.specs.Rules.{Rules}
+use Rattle.pur_tree.specs.Nodes.{Nodes, is_sound, is_joined, level_of}
+use Rattle.pur_tree.specs.Places.{level_limit}
+use Rattle.pur_tree.specs.Properties.{Holds}
+use Rattle.pur_tree.specs.Tokens.{Token, text_token, start_token, end_token, empty_token, tree_of, tokens_of_nodes, count_in_written, IsTreeOf}
+use Rattle.pur_tokens.specs.Joining.{count_in_text}
+use Rattle.pur_tokens.specs.Texts.{times}
+use Rattle.pur_wellform.specs.Closing.{closed, lost_in_closing, paid, steps, first_state, pending_limit, allowance}
+use Rattle.pur_tree.specs.Spelling.{is_spellable}
+use Rattle.pur_wellform.specs.Standing.{is_spellable_read, can_be_closed, permitted, letters, free, Stands}
+use Rattle.pur_wellform.specs.Invariants.{GoodRun}
+
+-- in the tree of what closing writes each node stands where it may
+abbrev pub ClosedStands : Type 0
+ClosedStands = (rules : Rules) (tokens : List read.PlainToken) → list_all (can_be_closed rules) tokens ≡ true
+    → Stands rules [] (tree_of (closed rules tokens))
+
+-- wherever the tokens end, what was written, what is open and what waits are as they should be: each token that was written
+-- stands where it may, no more wait than their limit, and what was paid and what may still be paid are the allowance
+abbrev pub EveryPrefixIsGood : Type 0
+EveryPrefixIsGood = (rules : Rules) (tokens : List read.PlainToken) → list_all (can_be_closed rules) tokens ≡ true
+    → GoodRun rules first_state (steps rules tokens first_state)
+
+-- nodes that stand where they may are permitted, are letters or white space text, stand in none that excludes them, and no level
+-- passes the limit
+pub record IsClosed (rules : Rules) (nodes : Nodes) : Type 0 where
+  pub permitted : Holds (permitted rules) tt nodes
+  pub letters : Holds (letters rules.doctype) (rules.parent) nodes
+  pub free : Holds free [] nodes
+  pub low : level_of nodes ≤ level_limit
+
+abbrev pub StandsClosed : Type 0
+StandsClosed = (rules : Rules) (nodes : Nodes) → Stands rules [] nodes → IsClosed rules nodes
+
+-- at no time do more wait than their limit: the tokens may end anywhere
+abbrev pub FewArePending : Type 0
+FewArePending = (rules : Rules) (tokens : List read.PlainToken) → list_all (can_be_closed rules) tokens ≡ true
+    → length (steps rules tokens first_state).state.pending ≤ pending_limit
+
+-- no more is paid than the allowance
+abbrev pub PaysLittle : Type 0
+PaysLittle = (rules : Rules) (tokens : List read.PlainToken) → list_all (can_be_closed rules) tokens ≡ true
+    → paid rules tokens ≤ allowance
+
+-- a token that was written, as one that is read
+abbrev pub as_read : Token → read.PlainToken
+as_read (text_token text) = read.text_token text
+as_read (start_token element) = read.start_token (element_name element.name) element.attrs
+as_read (end_token name) = read.end_token (element_name name)
+as_read (empty_token element) = read.empty_token (element_name element.name) element.attrs
+
+-- closing leaves nodes as they are where each stands where it may
+abbrev pub ClosedAsItself : Type 0
+ClosedAsItself = (rules : Rules) (nodes : Nodes) → Stands rules [] nodes → is_sound nodes ≡ true → is_joined nodes ≡ true
+    → closed rules (map as_read (tokens_of_nodes nodes)) ≡ tokens_of_nodes nodes
+
+-- what closing writes and what it loses has each character as often as what it reads
+abbrev pub ClosedLedger : Type 0
+ClosedLedger = (rules : Rules) (tokens : List read.PlainToken) (c : ℕ)
+    → count_in_written c (closed rules tokens) + times c (lost_in_closing rules tokens) ≡ count_in_text c tokens
+
+-- what closing leaves may be spelled, where the tokens may
+abbrev pub ClosedIsSpellable : Type 0
+ClosedIsSpellable = (rules : Rules) (tokens : List read.PlainToken) (nodes : Nodes) → list_all is_spellable_read tokens ≡ true
+    → IsTreeOf nodes (closed rules tokens) → is_spellable nodes ≡ true

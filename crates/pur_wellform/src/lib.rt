@@ -1,0 +1,18 @@
+//! Closing: tokens become a well-formed forest.
+#![tactic(auto)]
+
+mod closing;
+mod laws;
+mod machine;
+mod open_elements;
+mod reopening;
+mod search;
+mod steps;
+#[cfg(test)]
+mod tests;
+
+pub use closing::{Closing, make_wellformed};
+pub use laws::{
+    closed_as_itself, closed_is_spellable, closed_ledger, closed_stands, every_prefix_is_good,
+    few_are_pending, pays_little, stands_closed, worked_examples,
+};
