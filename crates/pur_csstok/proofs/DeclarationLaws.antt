@@ -1,0 +1,74 @@
+-- Clean declarations are read from the style that writes them.
+use Rattle.std.proofs.Common.{◌≡◌, ℕ, true, false, List, [], ◌∷◌, Some, None, refl, ap, ◌∙◌, arith, append_assoc}
+use Rattle.std.specs.Prelude.{not, Option}
+use Rattle.std.specs.List.{filter_map, cons_option}
+use Rattle.std.specs.Char.{to_ascii_lowercase}
+use Rattle.std.specs.Str.{str_to_ascii_lowercase}
+use Rattle.std.proofs.lemmas.Bool.Decides.{nat_tests}
+use Rattle.pur_text.specs.Characters.{is_space}
+use Rattle.pur_text.specs.Trimming.{trimmed}
+use Rattle.pur_csstok.specs.Cuts.{pieces_from, is_whole, is_plain}
+use Rattle.pur_csstok.specs.Declarations.{Pair, has_escape_or_comment, is_colon, declaration_of, declarations_of, declaration_body, style_text, is_property_character, IsClean, AreClean}
+use Rattle.pur_csstok.specs.declared.cuts.Separator.TheVariants.{Semicolon}
+use Rattle.pur_csstok.proofs.CutLaws.{plain_front, whole_cut}
+use Rattle.pur_csstok.proofs.DeclarationLemmas.{piece_read}
+use Rattle.pur_csstok.proofs.EndLaws.{is_harmless, harmless_front, spaceless-trimmed}
+use Rattle.pur_laws.proofs.Lists.{all-weaker}
+use Rattle.pur_laws.proofs.Cases.{lowered-same}
+
+-- ---- what a property's name hasn't
+
+property-plain : (c : ℕ) → is_property_character c ≡ true → is_plain Semicolon c ≡ true
+property-plain c is = grind (arith, nat_tests)
+
+property-low : (c : ℕ) → is_property_character c ≡ true → to_ascii_lowercase c ≡ c
+property-low c is = grind (arith, nat_tests)
+
+property-colon : (c : ℕ) → is_property_character c ≡ true → not (is_colon c) ≡ true
+property-colon c is = grind (arith, nat_tests)
+
+property-space : (c : ℕ) → is_property_character c ≡ true → is_space c ≡ false
+property-space c is = grind (arith, nat_tests)
+
+property-harmless : (c : ℕ) → is_property_character c ≡ true → is_harmless c ≡ true
+property-harmless c is = grind (arith, nat_tests)
+
+-- ---- one declaration
+
+body-whole : (pair : Pair) → IsClean pair → is_whole Semicolon (declaration_body pair) ≡ true
+body-whole pair is =
+    plain_front Semicolon pair.0 (0x3A ∷ pair.1) (all-weaker is_property_character (is_plain Semicolon) property-plain pair.0 is.property)
+    ∙ plain_front Semicolon (0x3A ∷ []) pair.1 refl ∙ is.value.whole
+
+abbrev some_pair : List ℕ → List ℕ → Option Pair
+some_pair property value = Some (property, value)
+
+both_same : (a b c d : List ℕ) → a ≡ b → c ≡ d → some_pair a c ≡ some_pair b d
+both_same a b c d p q = ap (λ t. some_pair t c) p ∙ ap (λ t. some_pair b t) q
+
+body-read : (pair : Pair) → IsClean pair → declaration_of (declaration_body pair) ≡ Some pair
+body-read pair is =
+    let plain : has_escape_or_comment (declaration_body pair) ≡ false =
+    harmless_front pair.0 (0x3A ∷ pair.1) (all-weaker is_property_character is_harmless property-harmless pair.0 is.property)
+    ∙ harmless_front (0x3A ∷ []) pair.1 refl ∙ is.value.plain in
+    let property : str_to_ascii_lowercase (trimmed pair.0) ≡ pair.0 =
+    ap str_to_ascii_lowercase (spaceless-trimmed is_property_character property-space pair.0 is.property)
+    ∙ lowered-same is_property_character property-low pair.0 is.property in
+    piece_read (declaration_body pair) pair.0 pair.1 plain refl (all-weaker is_property_character (λ c. not (is_colon c)) property-colon pair.0 is.property)
+    ∙ both_same _ _ _ _ property is.value.trim
+
+-- ---- all of them
+
+nil_read : declaration_of [] ≡ None
+unfolding declaration_of has_escape_or_comment
+nil_read = refl
+
+pub declarations-again : (pairs : List Pair) → AreClean pairs → declarations_of (style_text pairs) ≡ pairs
+unfolding pieces_from
+declarations-again [] all = ap (λ o. cons_option o []) nil_read
+declarations-again (pair ∷ pairs) all =
+    let body = declaration_body pair in
+    ap declarations_of (append_assoc body (0x3B ∷ []) (style_text pairs))
+    ∙ ap (filter_map declaration_of) (whole_cut Semicolon body 0x3B (style_text pairs) refl (body-whole pair all.0))
+    ∙ ap (λ o. cons_option o (declarations_of (style_text pairs))) (body-read pair all.0)
+    ∙ ap (λ t. pair ∷ t) (declarations-again pairs all.1)

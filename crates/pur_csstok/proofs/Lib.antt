@@ -1,0 +1,15 @@
+pub mod AtomLaws
+pub mod ColorLaws
+pub mod ColorLemmas
+pub mod CutLaws
+pub mod CutLemmas
+pub mod DeclarationLaws
+pub mod DeclarationLemmas
+pub mod DigitLemmas
+pub mod EndLaws
+pub mod FamilyLaws
+pub mod LengthLaws
+pub mod NumberLaws
+pub mod TextLemmas
+pub mod UrlLaws
+pub mod WordLaws

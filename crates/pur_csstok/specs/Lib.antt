@@ -1,0 +1,11 @@
+pub mod Atoms
+pub mod Colors
+pub mod Cuts
+pub mod Declarations
+pub mod Ends
+pub mod Families
+pub mod Lengths
+pub mod Names
+pub mod Numbers
+pub mod Urls
+pub mod Written

@@ -1,0 +1,14 @@
+pub mod AttrLemmas
+pub mod CutLemmas
+pub mod FixedLemmas
+pub mod FixedNumberLemmas
+pub mod FixedTokenLemmas
+pub mod FixedValueLemmas
+pub mod NumeralLemmas
+pub mod SeenLemmas
+pub mod SolidLemmas
+pub mod TableLemmas
+pub mod TextLemmas
+pub mod TightLemmas
+pub mod TokenLemmas
+pub mod WordLemmas
