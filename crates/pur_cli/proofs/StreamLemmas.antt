@@ -3,7 +3,7 @@ use Rattle.std.proofs.Math.Seq.{take-add}
 use Rattle.std.proofs.lemmas.List.{take_rest, take_all, length-take-le, length-take}
 use Rattle.pur_io.specs.Taken.{taken_more}
 use Rattle.pur_io.specs.Texts.{Name, text_chosen, ReadsAt}
-use Rattle.pur_cli.specs.Reading.{ReadSoFar}
+use Rattle.pur_cli.specs.Private.Reading.{ReadSoFar}
 use Rattle.pur_cli.specs.Writing.{TookFront}
 
 -- what is taken in two pieces

@@ -2,7 +2,7 @@
 use Rattle.std.specs.Prelude.{ℕ, List, [], length, nat_lt, if◌then◌else◌, Option, Some, None}
 use Rattle.std.specs.Result.{result_ok}
 use Rattle.pur_io.specs.Texts.{Name, text_named}
-use Rattle.pur_settings.specs.Reading.{settings_of}
+use Rattle.pur_settings.specs.Settings.{settings_of}
 use Rattle.pur_settings.specs.Rules.{Rules, default_rules}
 use Rattle.pur_engine.specs.Purified.{purified}
 use Rattle.pur_cli.specs.Limits.{settings_limit, input_limit}

@@ -1,7 +1,7 @@
 pub mod Limits
-pub mod Reading
 pub mod Words
 pub mod Choices
 pub mod Answers
 pub mod Statuses
 pub mod Writing
+pub mod Private

@@ -24,10 +24,14 @@ words_of InputTooLong = codes "purify: input too long"
 words_of CannotRead = codes "purify: cannot read"
 words_of CannotWrite = codes "purify: cannot write"
 
+-- the character that ends a line
+abbrev pub line_feed : ℕ
+line_feed = 10
+
 -- the line on standard error, with its line feed
 abbrev pub line_of : Status → List ℕ
 line_of Done = []
-line_of s = words_of s ++ (10 ∷ [])
+line_of s = words_of s ++ (line_feed ∷ [])
 
 -- a stream took a front of the line of the status with this number
 pub record TookLine (before after : Option (List ℕ)) (code : ℕ) : Type 0 where

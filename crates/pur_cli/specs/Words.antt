@@ -15,10 +15,14 @@ abbrev pub plain_command : Command → PlainCommand
 plain_command (Filter settings input) =
     record { settings = option_map string_bytes settings; input = option_map string_bytes input }
 
+-- the character that begins an option
+abbrev pub hyphen : ℕ
+hyphen = 45
+
 -- whether a word is a file: it isn't empty and doesn't begin with `-`
 abbrev pub is_file_word : List ℕ → Bool
 is_file_word [] = false
-is_file_word (c ∷ word) = not (c == 45)
+is_file_word (c ∷ word) = not (c == hyphen)
 
 -- the command with these settings, where the rest of the words is a file or nothing
 abbrev pub with_input : Option (List ℕ) → List (List ℕ) → Option PlainCommand

@@ -3,9 +3,11 @@ ghost use Rattle.std.specs.Prelude.{◌≡◌, ◌≢◌, ◌⊎◌, ◌+◌, �
 ghost use Rattle.pur_io.specs.Faults.{Rose};
 ghost use Rattle.pur_io.specs.Taken.{taken_more};
 ghost use Rattle.pur_io.specs.Texts.{plain_name, text_named};
+ghost use Rattle.pur_engine.specs.Spelled.{IsSpelled};
 ghost use Rattle.pur_cli.specs.Answers.{answer_under, answer_to, answer_of};
-ghost use Rattle.pur_cli.specs.Choices.{ChoseFile, ChoseSettings, ChoseInput};
+ghost use Rattle.pur_cli.specs.Choices.{ChoseSettings, ChoseInput};
 ghost use Rattle.pur_cli.specs.Limits.{settings_limit, input_limit};
+ghost use Rattle.pur_cli.specs.Private.Ends.{Ends};
 ghost use Rattle.pur_cli.specs.Statuses.{code_of, TookLine, TookWholeLine};
 ghost use Rattle.pur_cli.specs.Words.{plain_command, command_of};
 ghost use Rattle.pur_cli.specs.Writing.{TookFront};
@@ -22,11 +24,12 @@ use std::alloc::Global;
 
 /// Runs the program: `purify` with these words of its command line, which don't include its own name.
 ///
-/// The words are read first (`read_words`). Then the settings text is read from the shelf, at most 65,536 bytes, where
-/// the words name one, and refused where it has an offence; without one the settings are the defaults. Then the input is
-/// read, at most 1,048,576 bytes, and its purification under the settings is written to `out`. The answer is the status
-/// that the program ends with (`Status`), and its line is written to `err`; a fault of `err` changes no status. The whole
-/// text is computed before the first write to `out`, and from there on no memory is taken.
+/// The words are read first (`read_words`). Then the settings text is read from the shelf, where the words name one, and
+/// refused where it has more than 65,536 bytes or an offence; without one the settings are the defaults. Then the input is
+/// read, and refused where it has more than 1,048,576 bytes. Of each text one byte past its limit is asked for, to tell that
+/// it has one. The input's purification under the settings is written to `out`. The answer is the status that the program
+/// ends with (`Status`), and its line is written to `err`; a fault of `err` changes no status. The whole text is computed
+/// before the first write to `out`, and from there on no memory is taken.
 ///
 /// Clauses on texts hold where the shelf tells its texts and the streams tell what they take, as those in
 /// memory do. Want of memory is the one answer without a cause.
@@ -62,6 +65,8 @@ pub fn run<H: Shelf, O: Sink, E: Sink>(
     // What was written.
     ensures written { result ≡ code_of Status.Done → IfSome (H.texts shelf.old) (λ texts.
         O.taken out.new ≡ taken_more (O.taken out.old) (answer_of (map string_bytes words.now) texts).text) }
+    ensures spelled { result ≡ code_of Status.Done → IfSome (H.texts shelf.old) (λ texts.
+        IsSpelled (answer_of (map string_bytes words.now) texts).text) }
     ensures nothing { result ≢ code_of Status.Done → result ≢ code_of Status.CannotWrite →
         O.taken out.new ≡ O.taken out.old }
     ensures front { result ≡ code_of Status.CannotWrite → IfSome (H.texts shelf.old) (λ texts.
@@ -102,33 +107,7 @@ pub fn run<H: Shelf, O: Sink, E: Sink>(
 
 // Filters the input that the command names under its settings.
 fn filter<H: Shelf, O: Sink>(alloc: Global, command: Command, shelf: &mut H, out: &mut O) -> Status
-    ensures words { result ≢ Status.BadCommandLine }
-    ensures done { result ≡ Status.Done → IfSome (H.texts shelf.old) (λ texts.
-        (answer_to (plain_command command) texts).status ≡ Status.Done) }
-    ensures not_written { result ≡ Status.CannotWrite → IfSome (H.texts shelf.old) (λ texts.
-        (answer_to (plain_command command) texts).status ≡ Status.Done) }
-    ensures settings_refused { result ≡ Status.SettingsRefused → IfSome (H.texts shelf.old) (λ texts.
-        (answer_to (plain_command command) texts).status ≡ Status.SettingsRefused) }
-    ensures too_long { result ≡ Status.InputTooLong → IfSome (H.texts shelf.old) (λ texts.
-        (answer_to (plain_command command) texts).status ≡ Status.InputTooLong) }
-    ensures written { result ≡ Status.Done → IfSome (H.texts shelf.old) (λ texts.
-        O.taken out.new ≡ taken_more (O.taken out.old) (answer_to (plain_command command) texts).text) }
-    ensures nothing { result ≢ Status.Done → result ≢ Status.CannotWrite → O.taken out.new ≡ O.taken out.old }
-    ensures front { result ≡ Status.CannotWrite → IfSome (H.texts shelf.old) (λ texts.
-        TookFront (O.taken out.old) (O.taken out.new) (answer_to (plain_command command) texts).text) }
-    ensures unwritten { result ≡ Status.CannotWrite → Rose (O.faults out.old) (O.faults out.new) }
-    ensures unread { result ≡ Status.CannotRead → Rose (H.faults shelf.old) (H.faults shelf.new) }
-    ensures unread_late { result ≡ Status.CannotRead → Rose (H.mark shelf.new) (H.faults shelf.new) }
-    ensures unread_named { result ≡ Status.CannotRead → ChoseFile (plain_command command).settings (H.chosen shelf.new)
-        ⊎ (H.chosen shelf.new ≡ Some (plain_command command).input) }
-    ensures unread_refused { result ≡ Status.CannotRead → IfSome (H.texts shelf.old) (λ texts.
-        ChoseFile (plain_command command).settings (H.chosen shelf.new)
-        ⊎ ((answer_to (plain_command command) texts).status ≢ Status.SettingsRefused)) }
-    ensures kept { result ≢ Status.OutOfMemory → result ≢ Status.CannotRead → H.faults shelf.new ≡ H.faults shelf.old }
-    ensures place { result ≢ Status.OutOfMemory → IfSome (H.texts shelf.old) (λ _. H.place shelf.new ≤ input_limit + 1) }
-    ensures place_refused { result ≡ Status.SettingsRefused →
-        IfSome (H.texts shelf.old) (λ _. H.place shelf.new ≤ settings_limit + 1) }
-    ensures texts { H.texts shelf.new ≡ H.texts shelf.old }
+    ensures { Ends H.Shelf O.Sink (plain_command command) (answer_to (plain_command command)) shelf.old shelf.new out.old out.new result }
 {
     let Command::Filter { settings, input } = command;
     let settings = match read_settings(alloc, shelf, settings) {
@@ -137,7 +116,9 @@ fn filter<H: Shelf, O: Sink>(alloc: Global, command: Command, shelf: &mut H, out
         Err(NoSettings::Refused) => return Status::SettingsRefused,
         Err(NoSettings::Memory) => return Status::OutOfMemory,
     };
-    filter_under(alloc, &settings, input, shelf, out)
+    let status = filter_under(alloc, &settings, input, shelf, out);
+    drop(settings);
+    status
 }
 
 // Filters the input of this name under the settings; nothing is written before all is computed.
@@ -148,26 +129,10 @@ fn filter_under<H: Shelf, O: Sink>(
     shelf: &mut H,
     out: &mut O,
 ) -> Status
-    ensures words { result ≢ Status.BadCommandLine }
     ensures settings { result ≢ Status.SettingsRefused }
-    ensures done { result ≡ Status.Done → IfSome (H.texts shelf.old) (λ texts.
-        (answer_under settings.now (text_named texts (plain_name name))).status ≡ Status.Done) }
-    ensures not_written { result ≡ Status.CannotWrite → IfSome (H.texts shelf.old) (λ texts.
-        (answer_under settings.now (text_named texts (plain_name name))).status ≡ Status.Done) }
-    ensures too_long { result ≡ Status.InputTooLong → IfSome (H.texts shelf.old) (λ texts.
-        (answer_under settings.now (text_named texts (plain_name name))).status ≡ Status.InputTooLong) }
-    ensures written { result ≡ Status.Done → IfSome (H.texts shelf.old) (λ texts.
-        O.taken out.new ≡ taken_more (O.taken out.old) (answer_under settings.now (text_named texts (plain_name name))).text) }
-    ensures nothing { result ≢ Status.Done → result ≢ Status.CannotWrite → O.taken out.new ≡ O.taken out.old }
-    ensures front { result ≡ Status.CannotWrite → IfSome (H.texts shelf.old) (λ texts.
-        TookFront (O.taken out.old) (O.taken out.new) (answer_under settings.now (text_named texts (plain_name name))).text) }
-    ensures unwritten { result ≡ Status.CannotWrite → Rose (O.faults out.old) (O.faults out.new) }
-    ensures unread { result ≡ Status.CannotRead → Rose (H.faults shelf.old) (H.faults shelf.new) }
-    ensures unread_late { result ≡ Status.CannotRead → Rose (H.mark shelf.new) (H.faults shelf.new) }
     ensures chosen { H.chosen shelf.new ≡ Some (plain_name name) }
-    ensures kept { result ≢ Status.OutOfMemory → result ≢ Status.CannotRead → H.faults shelf.new ≡ H.faults shelf.old }
-    ensures place { IfSome (H.texts shelf.old) (λ _. H.place shelf.new ≤ input_limit + 1) }
-    ensures texts { H.texts shelf.new ≡ H.texts shelf.old }
+    ensures ends { Ends H.Shelf O.Sink (record { settings = None; input = plain_name name })
+        (λ texts. answer_under settings.now (text_named texts (plain_name name))) shelf.old shelf.new out.old out.new result }
 {
     let input = match read_text(alloc, shelf, name, INPUT_LIMIT) {
         Ok(input) => input,

@@ -1,9 +1,13 @@
-//! Tests of the top call over streams in memory: worked cases, and faults of the streams.
+//! Tests of the top call over streams in memory: its statuses, its lines, and faults of the streams. What becomes of an input
+//! is tested in pur_engine.
 
 ghost use Rattle.std.specs.Prelude.{◌≡◌, ◌≢◌, IfOk};
 ghost use Rattle.pur_io.specs.Texts.{plain_texts, HasDistinctNames};
 ghost use Rattle.pur_cli.specs.Statuses.{code_of};
 
+mod noting;
+
+use self::noting::{NotingShelf, NotingSink};
 use crate::program::run;
 use crate::status::Status;
 use crate::words::{Command, read_words};
@@ -64,74 +68,19 @@ fn run_over(
 }
 
 #[test]
-fn purifies_standard_input(rt: HostRuntime) -> Result<(), Fail> {
-    let rows: [(&str, &[u8], &[u8]); 20] = [
-        ("empty_input", b"", b""),
-        ("hello", b"Hello", b"Hello"),
+fn purifies_under_the_settings_that_are_named(rt: HostRuntime) -> Result<(), Fail> {
+    let rows: [(&str, Option<&str>, &[u8], &[u8]); 3] = [
+        ("the_defaults", None, b"<center>a", b"<center>a</center>"),
+        ("nothing_to_write", None, b"", b""),
         (
-            "a_paragraph_closes_another",
-            b"<p>a<p>b",
-            b"<p>a</p><p>b</p>",
+            "a_file_of_settings",
+            Some("--settings rules"),
+            b"<center>a",
+            b"<div>a</div>",
         ),
-        ("a_stray_end_tag_is_dropped", b"</p>a<br />b", b"a<br />b"),
-        ("text_round_a_paragraph", b"x<p>y</p>z</p>", b"x<p>y</p>z"),
-        ("an_open_paragraph_ends", b"<p>", b"<p></p>"),
-        ("texts_join_where_a_tag_was_dropped", b"a</p>b", b"ab"),
-        (
-            "signs_and_references",
-            b"1 < 2 & 3 > 2 &copy; &nope;",
-            b"1 &lt; 2 &amp; 3 &gt; 2 \xC2\xA9 &amp;nope;",
-        ),
-        ("a_tag_that_meets_the_end_is_dropped", b"a <b", b"a "),
-        ("a_script_is_dropped", b"a<script>if(1<2)</script>b", b"ab"),
-        ("a_comment_is_dropped", b"a<!--b-->c", b"ac"),
-        (
-            "a_comment_and_plain_text",
-            b"a<!--b-->c<![CDATA[<&amp;]]>d",
-            b"ac&lt;&amp;amp;d",
-        ),
-        (
-            "references_are_read_once",
-            b"&#13;&#x41;&amp;lt;&#65",
-            b"A&amp;lt;&amp;#65",
-        ),
-        ("an_empty_tag_is_a_whole_element", b"<p/>x", b"<p></p>x"),
-        ("a_comment_without_an_end", b"x<!--", b"x"),
-        ("bad_bytes_are_dropped", b"\x41\xC3\x28\x00\x42", b"A(B"),
-        ("a_line_end_of_two_characters", b"a\r\nb", b"a\nb"),
-        ("a_space_in_a_tag", b"<p >a", b"<p>a</p>"),
-        ("a_name_in_upper_case", b"<P>a<BR>b", b"<p>a<br />b</p>"),
-        ("attributes_are_taken_off", b"<p class='a'>x", b"<p>x</p>"),
     ];
-    for (name, input, out) in rows {
-        let ending = run_over(rt.alloc(), None, b"", input, ROOM)?;
-        assert_eq!(rt; ending.status, 0, "at {name}");
-        assert_eq!(rt; ending.out.taken(), out, "at {name}");
-        assert_eq!(rt; ending.err.taken(), b"".as_slice(), "at {name}");
-    }
-    Ok(())
-}
-
-#[test]
-fn settings_are_taken(rt: HostRuntime) -> Result<(), Fail> {
-    let rows: [(&str, &[u8], &[u8], &[u8]); 4] = [
-        (
-            "an_element_that_is_not_listed",
-            b"elements = [\"br\"]",
-            b"<p>a<br>b",
-            b"a<br />b",
-        ),
-        (
-            "strict_has_another_element",
-            b"doctype = \"strict\"",
-            b"<center><p>x</center>",
-            b"<p>x</p>",
-        ),
-        ("an_empty_text", b"", b"<p>a", b"<p>a</p>"),
-        ("the_version", b"version = 1", b"<p>a", b"<p>a</p>"),
-    ];
-    for (name, rules, input, out) in rows {
-        let ending = run_over(rt.alloc(), Some("--settings rules"), rules, input, ROOM)?;
+    for (name, line, input, out) in rows {
+        let ending = run_over(rt.alloc(), line, b"doctype = \"strict\"", input, ROOM)?;
         assert_eq!(rt; ending.status, 0, "at {name}");
         assert_eq!(rt; ending.out.taken(), out, "at {name}");
         assert_eq!(rt; ending.err.taken(), b"".as_slice(), "at {name}");
@@ -348,5 +297,40 @@ fn sure_streams_never_fail(rt: HostRuntime) -> Result<(), Fail> {
         0
     );
     assert_eq!(rt; out.given(), 5);
+    Ok(())
+}
+
+// Over a pipe a text can be read once, and over a terminal an end must be typed once; a write of a piece at a time would be a
+// call of the system for each.
+#[test]
+fn asks_no_more_than_it_must(rt: HostRuntime) -> Result<(), Fail> {
+    let alloc = rt.alloc();
+    // a name, the words, the settings, and how often a text is chosen
+    let rows: [(&str, Option<&str>, &[u8], u64); 5] = [
+        ("standard_input", None, b"", 1),
+        ("a_named_input", Some("rules"), b"Hello", 1),
+        ("settings_and_input", Some("--settings rules"), b"", 2),
+        (
+            "one_text_as_both",
+            Some("--settings rules rules"),
+            b"#Hey!",
+            2,
+        ),
+        ("refused_settings", Some("--settings rules"), b"=", 1),
+    ];
+    for (name, line, rules, choices) in rows {
+        let words = words_of(alloc, line)?;
+        let texts = texts_of(alloc, rules, b"Hello")?;
+        let mut shelf = NotingShelf::new(MemShelf::new(texts, Vec::new(alloc), 2));
+        let mut out = NotingSink::new();
+        let mut err = SureSink::new();
+        let status = run(alloc, words.as_slice(), &mut shelf, &mut out, &mut err);
+        assert_eq!(rt; shelf.choices, choices, "at {name}");
+        assert_eq!(rt; shelf.reads_behind_the_end, 0, "at {name}");
+        if status == 0 {
+            assert_eq!(rt; out.calls, 2, "at {name}");
+            assert_eq!(rt; out.offered, 5 + 2, "at {name}");
+        }
+    }
     Ok(())
 }

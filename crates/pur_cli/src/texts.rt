@@ -1,7 +1,8 @@
 // Reading a text to its end, within its limit.
-ghost use Rattle.std.specs.Prelude.{◌≡◌, ◌+◌, ◌<◌, ◌≤◌, length, Some, IfOk, IfSome, OnOk, IsErrOf};
+ghost use Rattle.std.specs.Prelude.{◌≡◌, ◌+◌, ◌<◌, length, Some, IfOk, IsErrOf};
 ghost use Rattle.pur_io.specs.Faults.{Rose};
 ghost use Rattle.pur_io.specs.Texts.{plain_name, text_named, text_chosen};
+ghost use Rattle.pur_cli.specs.Private.Reading.{IsRead};
 
 use pur_io::{Failed, Shelf};
 use std::alloc::{AllocError, Global};
@@ -34,16 +35,9 @@ pub fn read_text<H: Shelf>(
     limit: usize,
 ) -> Result<Vec<u8>, ReadFault>
     requires { limit < usize.MAX }
-    ensures texts { H.texts shelf.new ≡ H.texts shelf.old }
-    ensures whole { IfOk result (λ bytes. IfSome (H.texts shelf.old) (λ texts. bytes.items ≡ text_named texts (plain_name name))) }
-    ensures small { IfOk result (λ bytes. length bytes.items ≤ limit) }
-    ensures long { IsErrOf result ReadFault.TooLong → IfSome (H.texts shelf.old) (λ texts. limit < length (text_named texts (plain_name name))) }
-    ensures kept { OnOk result (H.faults shelf.new ≡ H.faults shelf.old) }
-    ensures kept_long { IsErrOf result ReadFault.TooLong → H.faults shelf.new ≡ H.faults shelf.old }
-    ensures failed { IsErrOf result ReadFault.Failed → Rose (H.faults shelf.old) (H.faults shelf.new) }
+    ensures read { IsRead H.Shelf (λ texts. text_named texts (plain_name name)) limit shelf.old shelf.new result }
     ensures late { IsErrOf result ReadFault.Failed → Rose (H.mark shelf.new) (H.faults shelf.new) }
     ensures chosen { H.chosen shelf.new ≡ Some (plain_name name) }
-    ensures place { IfSome (H.texts shelf.old) (λ _. H.place shelf.new ≤ limit + 1) }
 {
     if shelf.choose(name).is_err() {
         return Err(ReadFault::Failed);
@@ -72,16 +66,9 @@ fn read_chosen<H: Shelf>(
     requires fits { limit < usize.MAX }
     requires room { 0 < length buffer.old }
     requires start { H.place shelf.old ≡ 0 }
-    ensures texts { H.texts shelf.new ≡ H.texts shelf.old }
-    ensures whole { IfOk result (λ bytes. IfSome (H.texts shelf.old) (λ texts. bytes.items ≡ text_chosen texts (H.chosen shelf.old))) }
-    ensures small { IfOk result (λ bytes. length bytes.items ≤ limit) }
-    ensures long { IsErrOf result ReadFault.TooLong → IfSome (H.texts shelf.old) (λ texts. limit < length (text_chosen texts (H.chosen shelf.old))) }
-    ensures kept { OnOk result (H.faults shelf.new ≡ H.faults shelf.old) }
-    ensures kept_long { IsErrOf result ReadFault.TooLong → H.faults shelf.new ≡ H.faults shelf.old }
-    ensures failed { IsErrOf result ReadFault.Failed → Rose (H.faults shelf.old) (H.faults shelf.new) }
+    ensures read { IsRead H.Shelf (λ texts. text_chosen texts (H.chosen shelf.old)) limit shelf.old shelf.new result }
     ensures chosen { H.chosen shelf.new ≡ H.chosen shelf.old }
     ensures mark { H.mark shelf.new ≡ H.mark shelf.old }
-    ensures place { IfSome (H.texts shelf.old) (λ _. H.place shelf.new ≤ limit + 1) }
 {
     let mut bytes = Vec::new(alloc);
     'reading: while bytes.len() <= limit {

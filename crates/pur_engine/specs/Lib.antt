@@ -1,2 +1,3 @@
-pub mod Closing
+pub mod Bare
 pub mod Purified
+pub mod Spelled

@@ -6,9 +6,10 @@ use Rattle.pur_settings.specs.Rules.{Rules}
 use Rattle.pur_foreign.specs.Removal.{without_foreign}
 use Rattle.pur_tree.specs.Tokens.{tree_of}
 use Rattle.pur_tree.specs.Spelling.{spelling_of}
-use Rattle.pur_engine.specs.Closing.{closed}
+use Rattle.pur_wellform.specs.Closing.{closed}
+use Rattle.pur_engine.specs.Bare.{bare}
 
 -- the purification of an input under settings, as UTF-8: the spelling of the tree of the closed tags, where foreign
--- elements were removed from the tokens of the cleaned text
-abbrev pub purified : Rules → List ℕ → List ℕ
-purified rules input = encode_utf8_all (spelling_of (tree_of (closed (without_foreign rules (tokens_of (cleaned input))))))
+-- elements were removed from the tokens of the cleaned text, and their attributes taken off
+unfoldable pub purified : Rules → List ℕ → List ℕ
+purified rules input = encode_utf8_all (spelling_of (tree_of (closed rules (bare (without_foreign rules (tokens_of (cleaned input)))))))

@@ -1,8 +1,7 @@
-//! The engine: the passes of the filter in a row. `specs/` says how tags are closed and what the purification of an
-//! input is. So far no other elements than `p` and `br` are written, without attributes.
+//! The engine: the passes of the filter in a row. `specs/` says what the purification of an input is. So far all
+//! attributes are taken off.
 #![tactic(auto)]
 
-mod closing;
 mod passes;
 #[cfg(test)]
 mod tests;

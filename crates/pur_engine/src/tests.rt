@@ -2,50 +2,53 @@
 
 use crate::purify;
 use pur_settings::Settings;
+use std::alloc::Global;
 use std::test::Fail;
 
 #[test]
-fn purifies_under_the_defaults(rt: HostRuntime) -> Result<(), Fail> {
-    let rows: [(&str, &[u8], &[u8]); 19] = [
+fn reads_any_bytes(rt: HostRuntime) -> Result<(), Fail> {
+    let rows: [(&str, &[u8], &[u8]); 21] = [
         ("nothing_stays_nothing", b"", b""),
+        ("bytes_that_are_no_text_go", b"\x41\xC3\x28\x00\x42", b"A(B"),
+        ("a_line_end_of_two_characters", b"a\r\nb", b"a\nb"),
+        ("a_line_end_of_one_character", b"a\rb", b"a\nb"),
+        ("a_tab_and_a_line_feed_stay", b"a\tb\n", b"a\tb\n"),
         (
-            "a_paragraph_is_closed",
-            b"<p>a<br />b<p>c",
-            b"<p>a<br />b</p><p>c</p>",
+            "characters_past_ascii_stay",
+            b"\xC3\xA9\xF0\x9F\x98\x80",
+            b"\xC3\xA9\xF0\x9F\x98\x80",
+        ),
+        ("quotes_stay", b"it's \"so\"", b"it's \"so\""),
+        (
+            "signs_and_references",
+            b"1 < 2 & 3 > 2 &copy; &nope;",
+            b"1 &lt; 2 &amp; 3 &gt; 2 \xC2\xA9 &amp;nope;",
         ),
         (
-            "a_reference_stands_for_its_character",
-            b"&lt;&eacute;",
-            b"&lt;\xC3\xA9",
+            "references_are_read_once",
+            b"&#13;&#x41;&amp;lt;&#65",
+            b"A&amp;lt;&amp;#65",
         ),
+        ("a_number_past_the_last_character", b"x&#x110000;y", b"xy"),
         ("a_text_may_vanish", b"<p>&#0;", b"<p></p>"),
-        ("another_tag_is_passed_over", b"a<b>c", b"ac"),
-        ("an_unknown_tag_is_passed_over", b"a<q1>b</q1>c", b"abc"),
-        ("an_empty_paragraph_ends", b"<p/>x", b"<p></p>x"),
+        ("a_name_in_upper_case", b"<P>a<BR>b", b"<p>a<br />b</p>"),
+        ("a_space_in_a_tag", b"<p >a", b"<p>a</p>"),
+        ("a_slash_in_a_value", b"<p a=/>b", b"<p>b</p>"),
+        ("a_tag_that_meets_the_end_goes", b"a <b", b"a "),
+        ("a_comment_goes", b"a<!--b-->c", b"ac"),
+        ("a_comment_without_an_end", b"x<!--", b"x"),
+        ("a_script_goes", b"a<script>if(1<2)</script>b", b"ab"),
+        ("a_script_without_an_end", b"a<script>b", b"a"),
         (
-            "an_empty_paragraph_ends_an_open_one",
-            b"<p>a<p/>b",
-            b"<p>a</p><p></p>b",
+            "character_data_is_text",
+            b"a<!--b-->c<![CDATA[<&amp;]]>d",
+            b"ac&lt;&amp;amp;d",
         ),
         (
-            "a_start_tag_loses_its_attributes",
-            b"<P CLASS=a>x",
-            b"<p>x</p>",
+            "a_good_fragment_stays",
+            b"<p>a &amp; b<br />c</p>d",
+            b"<p>a &amp; b<br />c</p>d",
         ),
-        ("an_end_tag_without_a_start_is_dropped", b"a</p>b", b"ab"),
-        ("text_behind_a_paragraph", b"<p>a</p>b", b"<p>a</p>b"),
-        ("an_end_tag_of_a_break_is_dropped", b"</br>x", b"x"),
-        ("a_break", b"<br>", b"<br />"),
-        ("an_empty_break", b"<br/>", b"<br />"),
-        ("a_comment_is_removed", b"a<!--b-->c", b"ac"),
-        ("a_script_is_removed", b"a<script>if(1<2)</script>b", b"ab"),
-        ("a_comment_without_its_end", b"x<!--", b"x"),
-        (
-            "a_reference_is_not_read_twice",
-            b"&amp;lt;p&amp;gt;",
-            b"&amp;lt;p&amp;gt;",
-        ),
-        ("bytes_that_are_no_text_are_left_out", b"a\xFFb", b"ab"),
     ];
     let settings = Settings::defaults();
     for (name, input, want) in rows {
@@ -55,41 +58,402 @@ fn purifies_under_the_defaults(rt: HostRuntime) -> Result<(), Fail> {
     Ok(())
 }
 
+// A name, an input and its purification under the defaults.
+static UNDER_DEFAULTS: [(&str, &str, &str); 46] = [
+    (
+        "a_paragraph_is_closed",
+        "<p>a<br />b<p>c",
+        "<p>a<br />b</p><p>c</p>",
+    ),
+    ("an_unknown_tag_is_passed_over", "a<q1>b</q1>c", "abc"),
+    ("an_empty_tag_ends_at_once", "<p/>x", "<p></p>x"),
+    (
+        "a_start_tag_loses_its_attributes",
+        "<P CLASS=a>x",
+        "<p>x</p>",
+    ),
+    ("an_end_tag_without_a_start_is_dropped", "a</p>b", "ab"),
+    ("text_round_a_paragraph", "x<p>y</p>z</p>", "x<p>y</p>z"),
+    ("an_open_paragraph_ends", "<p>", "<p></p>"),
+    ("an_end_tag_of_an_empty_element_is_dropped", "</br>x", "x"),
+    (
+        "formatting_goes_on_behind_an_end_tag",
+        "<b><i>x</b>y</i>",
+        "<b><i>x</i></b><i>y</i>",
+    ),
+    (
+        "formatting_goes_on_in_a_block",
+        "<b>1<p>2</p>3</b>",
+        "<b>1</b><p><b>2</b></p><b>3</b>",
+    ),
+    (
+        "text_in_a_list_is_an_item",
+        "<ul>a<li>b</ul>",
+        "<ul><li>a</li><li>b</li></ul>",
+    ),
+    ("a_cell_without_a_table_is_dropped", "<td>x", "x"),
+    (
+        "text_in_a_table_is_lost",
+        "<table>x<tr><td>y</table>",
+        "<table><tr><td>y</td></tr></table>",
+    ),
+    (
+        "a_block_ends_a_paragraph_round_an_edit",
+        "<p><ins><div>x</div></ins></p>",
+        "<p><ins></ins></p><div>x</div>",
+    ),
+    (
+        "formatting_ends_with_its_cell",
+        "<table><tr><td><b>1</td><td>2</table>3",
+        "<table><tr><td><b>1</b></td><td>2</td></tr></table>3",
+    ),
+    (
+        "a_link_in_a_link_is_dropped",
+        "<a>1<b><a>2</a></b></a>",
+        "<a>1<b>2</b></a>",
+    ),
+    (
+        "a_big_text_in_pre_is_dropped",
+        "<pre><b>a<big>x</big></b></pre>",
+        "<pre><b>ax</b></pre>",
+    ),
+    (
+        "what_does_not_fit_waits",
+        "<p><big>1</p><pre>2</pre>3",
+        "<p><big>1</big></p><pre>2</pre><big>3</big>",
+    ),
+    (
+        "a_search_stops_at_a_cell",
+        "<ul><li><table><tr><td>1<li>2",
+        "<ul><li><table><tr><td>12</td></tr></table></li></ul>",
+    ),
+    (
+        "a_search_stops_at_a_caption",
+        "<ul><li><table><caption>1<li>2",
+        "<ul><li><table><caption>12</caption></table></li></ul>",
+    ),
+    (
+        "a_stopped_search_leaves_the_fragment_out",
+        "<table><caption>1<div>2",
+        "<table><caption>12</caption></table>",
+    ),
+    (
+        "a_cell_is_examined_itself",
+        "<table><tr><td><b>1<p>2",
+        "<table><tr><td><b>1</b><p><b>2</b></p></td></tr></table>",
+    ),
+    (
+        "a_cell_is_sought_past_a_cell",
+        "<table><tr><td>1<td>2",
+        "<table><tr><td>1</td><td>2</td></tr></table>",
+    ),
+    (
+        "an_end_tag_stops_at_a_cell",
+        "<div><table><tr><td>1</div>2",
+        "<div><table><tr><td>12</td></tr></table></div>",
+    ),
+    (
+        "the_end_of_a_table_passes_its_cells",
+        "<table><tr><td>1</table>2",
+        "<table><tr><td>1</td></tr></table>2",
+    ),
+    (
+        "an_ordered_list_implies_items",
+        "<ol>a",
+        "<ol><li>a</li></ol>",
+    ),
+    (
+        "a_directory_implies_items",
+        "<dir>a",
+        "<dir><li>a</li></dir>",
+    ),
+    ("a_menu_implies_items", "<menu>a", "<menu><li>a</li></menu>"),
+    (
+        "definitions_imply_descriptions",
+        "<dl>a",
+        "<dl><dd>a</dd></dl>",
+    ),
+    (
+        "an_inline_element_in_a_list_is_an_item",
+        "<ul><b>x</b></ul>",
+        "<ul><li><b>x</b></li></ul>",
+    ),
+    (
+        "a_table_implies_a_row_for_a_cell",
+        "<table><td>1",
+        "<table><tr><td>1</td></tr></table>",
+    ),
+    (
+        "a_table_implies_a_row_for_a_head",
+        "<table><th>1",
+        "<table><tr><th>1</th></tr></table>",
+    ),
+    (
+        "a_body_implies_a_row",
+        "<table><tbody><td>1",
+        "<table><tbody><tr><td>1</td></tr></tbody></table>",
+    ),
+    (
+        "a_head_implies_a_row",
+        "<table><thead><td>1",
+        "<table><thead><tr><td>1</td></tr></thead></table>",
+    ),
+    (
+        "a_foot_implies_a_row",
+        "<table><tfoot><td>1",
+        "<table><tfoot><tr><td>1</td></tr></tfoot></table>",
+    ),
+    (
+        "white_space_opens_no_wrapper",
+        "<ul> <li>a",
+        "<ul> <li>a</li></ul>",
+    ),
+    (
+        "a_quote_holds_text",
+        "<blockquote>x</blockquote>",
+        "<blockquote>x</blockquote>",
+    ),
+    (
+        "an_edit_opens_no_formatting_again",
+        "<p><b>1<p><ins>2",
+        "<p><b>1</b></p><p><ins><b>2</b></ins></p>",
+    ),
+    (
+        "an_inline_element_opens_formatting_again",
+        "<p><b>1<p><span>2",
+        "<p><b>1</b></p><p><b><span>2</span></b></p>",
+    ),
+    (
+        "white_space_opens_no_formatting_again",
+        "<p><b>1<p> <i>2",
+        "<p><b>1</b></p><p> <b><i>2</i></b></p>",
+    ),
+    (
+        "an_empty_tag_is_not_carried_on",
+        "<p><b/>1<p>2",
+        "<p><b></b>1</p><p>2</p>",
+    ),
+    (
+        "an_empty_cell_lets_nothing_wait",
+        "<table><tr><td><b>1<p>2</p></b></td></tr><td/></table>x",
+        "<table><tr><td><b>1</b><p><b>2</b></p></td></tr><tr><td></td></tr></table>x",
+    ),
+    (
+        "an_end_tag_carries_not_itself",
+        "<b><i>1</b>2",
+        "<b><i>1</i></b><i>2</i>",
+    ),
+    (
+        "an_end_tag_closes_what_was_opened_again",
+        "<b><p>1</b>2",
+        "<b></b><p><b>1</b>2</p>",
+    ),
+    (
+        "an_end_tag_forgets_what_waits",
+        "<p><b><i></p></i>1",
+        "<p><b><i></i></b></p><b>1</b>",
+    ),
+    (
+        "a_list_in_a_list_is_an_item",
+        "<ul><li>1<ul><li>2</ul>3</ul>",
+        "<ul><li>1<ul><li>2</li></ul>3</li></ul>",
+    ),
+];
+
+#[test]
+fn purifies_under_the_defaults(rt: HostRuntime) -> Result<(), Fail> {
+    let settings = Settings::defaults();
+    for (name, input, want) in UNDER_DEFAULTS {
+        let text = purify(rt.alloc(), &settings, input.as_bytes())?;
+        assert_eq!(rt; text.as_slice(), want.as_bytes(), "at {name}");
+    }
+    Ok(())
+}
+
+// A name, a text of settings, an input and its purification under these settings.
+static UNDER_SETTINGS: [(&str, &str, &str, &str); 13] = [
+    (
+        "only_breaks_are_permitted",
+        "elements = [\"br\"]",
+        "<p>a<br>b",
+        "a<br />b",
+    ),
+    (
+        "nothing_is_permitted",
+        "elements = []",
+        "<p>a<br>b<p>c",
+        "abc",
+    ),
+    (
+        "only_bold_is_permitted",
+        "elements = [\"b\"]",
+        "<p><b>x</b></p>",
+        "<b>x</b>",
+    ),
+    (
+        "items_are_not_permitted",
+        "elements = [\"ul\"]",
+        "<ul>a<li>b</ul>",
+        "<ul></ul>",
+    ),
+    (
+        "rows_are_not_permitted",
+        "elements = [\"table\", \"td\"]",
+        "<table><td>1</table>2",
+        "<table></table>2",
+    ),
+    (
+        "a_strict_quote_implies_a_paragraph",
+        "doctype = \"strict\"",
+        "<blockquote>x</blockquote>",
+        "<blockquote><p>x</p></blockquote>",
+    ),
+    (
+        "a_strict_quote_implies_a_paragraph_round_bold",
+        "doctype = \"strict\"",
+        "<blockquote><b>x</b></blockquote>",
+        "<blockquote><p><b>x</b></p></blockquote>",
+    ),
+    (
+        "a_strict_quote_holds_edits",
+        "doctype = \"strict\"",
+        "<blockquote><ins>x</ins></blockquote>",
+        "<blockquote><ins>x</ins></blockquote>",
+    ),
+    (
+        "paragraphs_are_not_permitted_in_a_strict_quote",
+        "doctype = \"strict\"\nelements = [\"blockquote\"]",
+        "<blockquote>x</blockquote>",
+        "<blockquote></blockquote>",
+    ),
+    (
+        "a_span_holds_no_paragraph",
+        "parent = \"span\"",
+        "<p>x</p>",
+        "x",
+    ),
+    (
+        "a_span_holds_inline_elements",
+        "parent = \"span\"",
+        "<b>1<p>2</p>3</b>",
+        "<b>123</b>",
+    ),
+    (
+        "a_div_holds_paragraphs",
+        "parent = \"div\"",
+        "<p>x",
+        "<p>x</p>",
+    ),
+    (
+        "a_centered_paragraph_in_strict",
+        "doctype = \"strict\"",
+        "<center><p>x</center>",
+        "<div><p>x</p></div>",
+    ),
+];
+
+// What is written for an input under the settings of a text.
+fn written(alloc: Global, document: &str, input: &str) -> Result<Vec<u8>, Fail> {
+    if document.len() > 65_536 {
+        return Err(Fail::new("the settings are too long"));
+    }
+    let settings = Settings::read(alloc, document.as_bytes())?;
+    let text = purify(alloc, &settings, input.as_bytes())?;
+    Ok(text)
+}
+
 #[test]
 fn purifies_under_settings(rt: HostRuntime) -> Result<(), Fail> {
-    let rows: [(&str, &[u8], &[u8], &[u8]); 4] = [
-        (
-            "only_breaks_are_permitted",
-            b"elements = [\"br\"]",
-            b"<p>a<br>b",
-            b"a<br />b",
-        ),
-        (
-            "only_paragraphs_are_permitted",
-            b"elements = [\"p\"]",
-            b"<p>a<br>b",
-            b"<p>ab</p>",
-        ),
-        (
-            "nothing_is_permitted",
-            b"elements = []",
-            b"<p>a<br>b<p>c",
-            b"abc",
-        ),
-        (
-            "a_centered_paragraph_in_strict",
-            b"doctype = \"strict\"",
-            b"<center><p>x</center>",
-            b"<p>x</p>",
-        ),
-    ];
-    for (name, document, input, want) in rows {
-        let read = Settings::read(rt.alloc(), document);
-        assert!(rt; read.is_ok(), "at {name}");
-        if let Ok(settings) = read {
-            let text = purify(rt.alloc(), &settings, input)?;
-            assert_eq!(rt; text.as_slice(), want, "at {name}");
-        }
+    for (name, document, input, want) in UNDER_SETTINGS {
+        let text = written(rt.alloc(), document, input)?;
+        assert_eq!(rt; text.as_slice(), want.as_bytes(), "at {name}");
     }
+    Ok(())
+}
+
+// So many times a text.
+fn times(out: &mut String, count: usize, text: &str) -> Result<(), Fail> {
+    for _ in 0..count {
+        out.push_str(text)?;
+    }
+    Ok(())
+}
+
+#[test]
+fn levels_end_at_the_limit(rt: HostRuntime) -> Result<(), Fail> {
+    let alloc = rt.alloc();
+    let settings = Settings::defaults();
+    let mut input = String::new(alloc);
+    times(&mut input, 129, "<div>")?;
+    input.push_str("x")?;
+    times(&mut input, 129, "</div>")?;
+    let mut want = String::new(alloc);
+    times(&mut want, 128, "<div>")?;
+    want.push_str("x")?;
+    times(&mut want, 128, "</div>")?;
+    let once = purify(alloc, &settings, input.as_bytes())?;
+    assert_eq!(rt; once.as_slice(), want.as_bytes());
+    let twice = purify(alloc, &settings, once.as_slice())?;
+    assert_eq!(rt; twice.as_slice(), want.as_bytes());
+    Ok(())
+}
+
+#[test]
+fn a_row_counts_for_two(rt: HostRuntime) -> Result<(), Fail> {
+    let alloc = rt.alloc();
+    let mut input = String::new(alloc);
+    times(&mut input, 126, "<div>")?;
+    input.push_str("<table><tr><td>x")?;
+    let mut want = String::new(alloc);
+    times(&mut want, 126, "<div>")?;
+    want.push_str("<table></table>")?;
+    times(&mut want, 126, "</div>")?;
+    let text = purify(alloc, &Settings::defaults(), input.as_bytes())?;
+    assert_eq!(rt; text.as_slice(), want.as_bytes());
+    Ok(())
+}
+
+#[test]
+fn a_flood_of_bold_stops_at_the_limit(rt: HostRuntime) -> Result<(), Fail> {
+    let alloc = rt.alloc();
+    let mut input = String::new(alloc);
+    times(&mut input, 200_000, "<b>")?;
+    input.push_str("x")?;
+    let mut want = String::new(alloc);
+    times(&mut want, 128, "<b>")?;
+    want.push_str("x")?;
+    times(&mut want, 128, "</b>")?;
+    let text = purify(alloc, &Settings::defaults(), input.as_bytes())?;
+    assert_eq!(rt; text.len(), 897);
+    assert_eq!(rt; text.as_slice(), want.as_bytes());
+    Ok(())
+}
+
+#[test]
+fn copies_end_with_the_allowance(rt: HostRuntime) -> Result<(), Fail> {
+    let alloc = rt.alloc();
+    let mut input = String::new(alloc);
+    times(&mut input, 100, "<b>")?;
+    times(&mut input, 1000, "<p>x")?;
+    let mut want = String::new(alloc);
+    times(&mut want, 100, "<b>")?;
+    times(&mut want, 100, "</b>")?;
+    for at in 0..1000usize {
+        let copies = if at < 655 {
+            100
+        } else if at == 655 {
+            36
+        } else {
+            0
+        };
+        want.push_str("<p>")?;
+        times(&mut want, copies, "<b>")?;
+        want.push_str("x")?;
+        times(&mut want, copies, "</b>")?;
+        want.push_str("</p>")?;
+    }
+    let text = purify(alloc, &Settings::defaults(), input.as_bytes())?;
+    assert_eq!(rt; text.len(), 467_452);
+    assert_eq!(rt; text.as_slice(), want.as_bytes());
     Ok(())
 }

@@ -1,6 +1,6 @@
 use Rattle.std.proofs.Common.{◌≡◌, ◌≤◌, ◌+◌, ◌-◌, IfSome, length}
 use Rattle.pur_io.specs.Texts.{text_chosen}
-use Rattle.pur_cli.specs.Reading.{ReadSoFar}
+use Rattle.pur_cli.specs.Private.Reading.{ReadSoFar}
 use Rattle.pur_cli.proofs.texts.read_chosen.Given as goal
 
 abbrev pub invariant-reading : goal.invariant-reading

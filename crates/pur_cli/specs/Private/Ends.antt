@@ -1,0 +1,42 @@
+-- How a command ends. Each command has this contract, and `run` says it of the program.
+use Rattle.std.specs.Prelude.{◌≡◌, ◌≢◌, ◌⊎◌, ◌+◌, ◌≤◌, List, ℕ, Some, IfSome}
+use Rattle.pur_io.specs.Faults.{Rose}
+use Rattle.pur_io.specs.Taken.{taken_more}
+use Rattle.pur_io.specs.Texts.{Name}
+use Rattle.pur_io.specs.declared.traits.Shelf as shelf
+use Rattle.pur_io.specs.declared.traits.Sink as sink
+use Rattle.pur_engine.specs.Spelled.{IsSpelled}
+use Rattle.pur_cli.specs.Answers.{Answer}
+use Rattle.pur_cli.specs.Choices.{ChoseFile}
+use Rattle.pur_cli.specs.Limits.{settings_limit, input_limit}
+use Rattle.pur_cli.specs.Words.{PlainCommand}
+use Rattle.pur_cli.specs.Writing.{TookFront}
+use Rattle.pur_cli.specs.declared.status.Status.{Status}
+use Rattle.pur_cli.specs.declared.status.Status.TheVariants.{Done, OutOfMemory, BadCommandLine, SettingsRefused, InputTooLong, CannotRead, CannotWrite}
+
+-- a command that has this answer for the texts of a shelf, and writes it to a sink, ends with a status
+pub record Ends {H O : Type 0} (h : shelf.Ghosts H) (o : sink.Ghosts O) (command : PlainCommand) (answer : List (Name × List ℕ) → Answer)
+    (before after : H) (out written : O) (status : Status) : Type 0 where
+  -- which status comes: it is the answer's, but for want of memory and the faults outside
+  pub words : status ≢ BadCommandLine
+  pub done : status ≡ Done → IfSome (h.texts before) (λ texts. (answer texts).status ≡ Done)
+  pub not_written : status ≡ CannotWrite → IfSome (h.texts before) (λ texts. (answer texts).status ≡ Done)
+  pub settings_refused : status ≡ SettingsRefused → IfSome (h.texts before) (λ texts. (answer texts).status ≡ SettingsRefused)
+  pub too_long : status ≡ InputTooLong → IfSome (h.texts before) (λ texts. (answer texts).status ≡ InputTooLong)
+  -- what was written
+  pub whole : status ≡ Done → IfSome (h.texts before) (λ texts. o.taken written ≡ taken_more (o.taken out) (answer texts).text)
+  pub spelled : status ≡ Done → IfSome (h.texts before) (λ texts. IsSpelled (answer texts).text)
+  pub nothing : status ≢ Done → status ≢ CannotWrite → o.taken written ≡ o.taken out
+  pub front : status ≡ CannotWrite → IfSome (h.texts before) (λ texts. TookFront (o.taken out) (o.taken written) (answer texts).text)
+  -- what the counts of faults did
+  pub unwritten : status ≡ CannotWrite → Rose (o.faults out) (o.faults written)
+  pub unread : status ≡ CannotRead → Rose (h.faults before) (h.faults after)
+  pub unread_late : status ≡ CannotRead → Rose (h.mark after) (h.faults after)
+  pub kept : status ≢ OutOfMemory → status ≢ CannotRead → h.faults after ≡ h.faults before
+  -- what was asked of the shelf
+  pub unread_named : status ≡ CannotRead → ChoseFile command.settings (h.chosen after) ⊎ (h.chosen after ≡ Some command.input)
+  pub unread_refused : status ≡ CannotRead → IfSome (h.texts before) (λ texts.
+      ChoseFile command.settings (h.chosen after) ⊎ ((answer texts).status ≢ SettingsRefused))
+  pub place : status ≢ OutOfMemory → IfSome (h.texts before) (λ _. h.place after ≤ input_limit + 1)
+  pub place_refused : status ≡ SettingsRefused → IfSome (h.texts before) (λ _. h.place after ≤ settings_limit + 1)
+  pub texts : h.texts after ≡ h.texts before

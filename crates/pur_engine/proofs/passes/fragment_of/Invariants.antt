@@ -1,0 +1,22 @@
+-- What was written, and then what the tokens that are left will write, is what all tokens of the text write; and those can be closed.
+use Rattle.std.proofs.Common.{◌≡◌, length, true}
+use Rattle.std.specs.List.{list_all}
+use Rattle.std.specs.Str.{chars}
+use Rattle.pur_lexer.specs.Lexing.{tokens_of}
+use Rattle.pur_foreign.specs.Removal.{without_foreign}
+use Rattle.pur_foreign.specs.Keeping.{kept_behind}
+use Rattle.pur_wellform.specs.Closing.{closed}
+use Rattle.pur_wellform.specs.Progress.{closed_behind}
+use Rattle.pur_wellform.specs.Standing.{can_be_closed}
+use Rattle.pur_engine.specs.Bare.{bare}
+use Rattle.pur_engine.proofs.passes.fragment_of.Given as goal
+
+abbrev pub invariant-reading : goal.invariant-reading
+invariant-reading l = record {
+  rules : l.closing.rules ≡ l.settings;
+  can : list_all (can_be_closed l.settings) (bare (kept_behind l.settings l.removal l.lexer)) ≡ true;
+  same : closed_behind l.closing (bare (kept_behind l.settings l.removal l.lexer)) ≡ closed l.settings (bare (without_foreign l.settings (tokens_of (chars l.text))));
+}
+
+abbrev pub decreases-reading : goal.decreases-reading
+decreases-reading l = length l.lexer
