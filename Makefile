@@ -14,7 +14,7 @@ build/purify: crates.txt $(shell find crates -name out -prune -o -type f -print)
 	cp crates/purify/out/purify build/purify
 
 example: build/purify
-	./build/purify --settings examples/site.toml examples/comment.html
+	./build/purify examples/post.html
 
 test:
 	bash .ci/run

@@ -1,45 +1,42 @@
-"""Times a built program on inputs of 256 KiB, 512 KiB and 1 MiB, for the script beside this file."""
+"""Runs a built program on inputs, and tells its processor time and its memory, for the scripts beside this file."""
 import os
-import tempfile
+import subprocess
 
-SIZES = (256 * 1024, 512 * 1024, 1024 * 1024)
-RUNS = 25
+GNU_TIME = "/usr/bin/time"
+MIB = 1024 * 1024
 
 
 def milliseconds(command, path):
-    """The least processor time of a run of the command over the file, in milliseconds."""
-    least = float("inf")
-    for _ in range(RUNS):
-        child = os.fork()
-        if child == 0:
-            os.dup2(os.open(path, os.O_RDONLY), 0)
-            os.dup2(os.open(os.devnull, os.O_WRONLY), 1)
-            os.dup2(1, 2)
-            os.execv(command[0], command)
-        usage = os.wait4(child, 0)[2]
-        least = min(least, (usage.ru_utime + usage.ru_stime) * 1000)
-    return least
+    """The processor time of one run of the command over the file, in milliseconds."""
+    child = os.fork()
+    if child == 0:
+        os.dup2(os.open(path, os.O_RDONLY), 0)
+        os.dup2(os.open(os.devnull, os.O_WRONLY), 1)
+        os.dup2(1, 2)
+        os.execv(command[0], command)
+    usage = os.wait4(child, 0)[2]
+    return (usage.ru_utime + usage.ru_stime) * 1000
 
 
-def repeated(piece, head=b"", tail=b""):
-    """The inputs of a piece again and again, between a head and a tail, by their size."""
-    return lambda size: head + piece * ((size - len(head) - len(tail)) // len(piece)) + tail
+def least(command, path, runs):
+    """The least processor time of some runs, in milliseconds."""
+    return min(milliseconds(command, path) for _ in range(runs))
 
 
-def print_table(program, kinds, words):
-    """Prints for each kind of input the times at the three sizes and the ratios of neighbours."""
-    command = [os.path.abspath(program), *words]
-    with tempfile.TemporaryDirectory() as room:
-        path = os.path.join(room, "input")
+def resident(command, path):
+    """The most memory that a run of the command over the file holds, in bytes; None without GNU time.
 
-        def timed(data):
-            with open(path, "wb") as file:
-                file.write(data)
-            return milliseconds(command, path)
+    A child that Python forks counts Python's own pages too, so that its own count won't do.
+    """
+    if not os.access(GNU_TIME, os.X_OK):
+        return None
+    with open(path, "rb") as file:
+        run = subprocess.run(
+            [GNU_TIME, "-f", "%M", *command], stdin=file, stdout=subprocess.DEVNULL, stderr=subprocess.PIPE, check=False
+        )
+    return int(run.stderr.split()[-1]) * 1024
 
-        empty = timed(b"")
-        print(f"{'kind':30} {'256 KiB':>10} {'512 KiB':>10} {'1 MiB':>10}  ratios")
-        for name, input_of in kinds.items():
-            times = [max(timed(input_of(size)) - empty, 0.01) for size in SIZES]
-            ratios = " ".join(f"{b / a:.2f}" for a, b in zip(times, times[1:]))
-            print(f"{name:30} " + " ".join(f"{t:8.2f}ms" for t in times) + f"  {ratios}")
+
+def program(path, words=()):
+    """The command of a program by its path and the words that it is given."""
+    return [os.path.abspath(path), *words]

@@ -1,0 +1,81 @@
+"""Inputs of any size for the scripts beside this file, each a function from a size in bytes to the bytes."""
+
+
+def repeated(piece, head=b"", tail=b""):
+    """The inputs of a piece again and again, between a head and a tail, by their size."""
+    return lambda size: head + piece * ((size - len(head) - len(tail)) // len(piece)) + tail
+
+
+def distinct_names(size):
+    """One tag with as many distinct attribute names as there is room for."""
+    names = "".join(f" {number:x}" for number in range(size // 5))
+    return ("<font" + names)[: size - 1].encode() + b">"
+
+
+ARTICLE = """<h2>How the {0}th loaf was baked</h2>
+<p class="lead">Flour, water, salt &amp; time: that is all there is to it, and each of them <em>matters</em>.</p>
+<!-- the editor's note of article {0} -->
+<p>Mix them <b>well</b>, and let the dough rest for <a href="http://bread.example/{0}?rest=long">a whole night</a>.
+It grows by half; a warm room makes it faster, a cold one better.</p>
+<ul>
+<li>500 g of flour</li>
+<li>350 g of water</li>
+<li>10 g of salt</li>
+</ul>
+<p><img src="/loaves/{0}.jpg" alt="loaf {0}" /> The crust should sing when it cools.<br />Don&#8217;t cut it before.</p>
+<blockquote><p>&ldquo;Bread is a matter of waiting,&rdquo; said the miller.</p></blockquote>
+"""
+
+
+def articles(size):
+    """A page of articles, as people write them: a tag for some fifty bytes."""
+    count = size // len(ARTICLE) + 1
+    return "".join(ARTICLE.format(number) for number in range(count)).encode()[:size]
+
+
+# What a page or an attacker may send, each for what it strains.
+KINDS = {
+    "plain ASCII": repeated(b"the quick brown fox "),
+    "a page of articles": articles,
+    "broken UTF-8": repeated(b"\xc3(\xff\xe2\x82"),
+    "bytes that are never UTF-8": repeated(b"\xff"),
+    "carriage returns": repeated(b"\r"),
+    "two-byte characters": repeated("é".encode()),
+    "ampersands": repeated(b"&"),
+    "references to nothing": repeated(b"&#1;"),
+    "ampersands and a letter": repeated(b"&a"),
+    "named references": repeated(b"&copy;"),
+    "references to a sign of markup": repeated(b"&lt;"),
+    "a long run of digits": repeated(b"1", head=b"&#"),
+    "greater-than signs": repeated(b">"),
+    "paragraphs": repeated(b"<p>a"),
+    "end tags that close nothing": repeated(b"</p>"),
+    "line breaks": repeated(b"<br>"),
+    "line breaks as empty tags": repeated(b"<br />"),
+    "comments": repeated(b"<!---->"),
+    "comments in a comment": repeated(b"<!--"),
+    "less-than signs": repeated(b"<"),
+    "scripts in a script": repeated(b"<script"),
+    "end marks in a script": repeated(b"</scrip", head=b"<script>"),
+    "one long value": repeated(b"x", head=b"<a b='", tail=b"'>"),
+    "distinct attribute names": distinct_names,
+    "one attribute name again": repeated(b" b", head=b"<font", tail=b">"),
+    "one attribute a tag": repeated(b"<p title=x>a"),
+    "two attributes a tag": repeated(b"<a b=c d=e>"),
+    "four attributes a tag": repeated(b"<a b=c d=e f=g h=i>"),
+    "values without quotes": repeated(b"<a b="),
+    "quotes in a tag": repeated(b'"', head=b"<a ", tail=b">"),
+    "bold texts": repeated(b"<b>a</b>"),
+    "elements that are unknown": repeated(b"<blink>a"),
+    "texts that are joined": repeated(b"a<!>"),
+    "fonts": repeated(b"<font color=red size=7>a</font>"),
+    "a font with a long style": repeated(b"x", head=b"<font color=red style='", tail=b"'>"),
+    "centred texts": repeated(b"<center>a</center>"),
+    "end tags that close nothing, 128 deep": repeated(b"</p>", head=b"<div>" * 128),
+    "start tags without a place, 128 deep": repeated(b"<li>", head=b"<div>" * 128),
+    "formatting that never fits": repeated(b"a</p>", head=b"<big>" * 128 + b"<pre>"),
+    "bold before a letter": repeated(b"<b>", tail=b"x"),
+    "bold that is carried": repeated(b"<p>x", head=b"<b>" * 100),
+    "cells without rows": repeated(b"<td>a", head=b"<table>"),
+    "nested lists": repeated(b"<ul>a"),
+}
