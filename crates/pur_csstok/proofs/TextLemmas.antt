@@ -13,7 +13,7 @@ use Rattle.std.proofs.lemmas.Str.{chars-nil, chars-append, chars_past_char, char
 use Rattle.pur_laws.proofs.Cases.{read-chars}
 use Rattle.pur_laws.proofs.Texts.{is_ascii, chars_ascii}
 use Rattle.pur_csstok.specs.Ends.{before}
-use Rattle.pur_csstok.specs.Written.{text_of}
+use Rattle.pur_text.specs.Texts.{text_of}
 use Rattle.pur_laws.proofs.Tests.{same_number}
 
 -- ---- texts put together

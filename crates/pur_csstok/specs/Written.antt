@@ -2,14 +2,11 @@
 use Rattle.std.specs.Prelude.{List, ℕ, String, map, string_bytes}
 use Rattle.std.specs.Str.{chars}
 use Rattle.std.specs.declared.alloc.Global.{Global}
+use Rattle.pur_text.specs.Texts.{text_of}
 use Rattle.pur_csstok.specs.Declarations.{Pair}
 use Rattle.pur_csstok.specs.Numbers.{Number}
 use Rattle.pur_csstok.specs.declared.numbers.Number.{Number as Digits}
 use Rattle.pur_csstok.specs.declared.declarations.Declaration.{Declaration}
-
--- the characters of a text
-abbrev pub text_of : String Global → List ℕ
-text_of text = chars (string_bytes text)
 
 -- the number whose digits the program holds
 abbrev pub number_in : Digits → Number

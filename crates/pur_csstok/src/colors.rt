@@ -6,7 +6,7 @@ ghost use Rattle.std.specs.Str.{IsUtf8, bytes_eq, chars};
 ghost use Rattle.std.specs.Str.Parse.{digits_value};
 ghost use Rattle.pur_csstok.specs.Numbers.{is_digit};
 ghost use Rattle.pur_csstok.specs.Colors.{is_hex_digit, is_hash, twice, six_digits, hash_read, color_named, is_part, part_value, two_digits, parts_read, between_commas, rgb_read, lowered_read, color_read};
-ghost use Rattle.pur_csstok.specs.Written.{text_of};
+ghost use Rattle.pur_text.specs.Texts.{text_of};
 
 use crate::digits::are_digits;
 use crate::ends::argument_of;

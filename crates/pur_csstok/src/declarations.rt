@@ -3,7 +3,8 @@ ghost use Rattle.std.specs.Prelude.{◌≡◌, ◌++◌, ◌∷◌, [], map, fil
 ghost use Rattle.std.specs.List.{cons_option};
 ghost use Rattle.std.specs.Str.{chars};
 ghost use Rattle.pur_csstok.specs.Declarations.{has_escape_or_comment, clean_pair, is_word, declaration_of, declarations_of, words_of};
-ghost use Rattle.pur_csstok.specs.Written.{pair_of, pairs_of, text_of};
+ghost use Rattle.pur_text.specs.Texts.{text_of};
+ghost use Rattle.pur_csstok.specs.Written.{pair_of, pairs_of};
 
 use crate::cuts::{Separator, cut};
 use crate::texts::{cut_at, cut_first, lower};

@@ -4,7 +4,7 @@ ghost use Rattle.std.specs.List.{cons_option, list_all};
 ghost use Rattle.std.specs.Str.{IsUtf8, chars};
 ghost use Rattle.pur_csstok.specs.Names.{is_one_of};
 ghost use Rattle.pur_csstok.specs.Families.{is_name_character, quoted, name_read, generics, bare_read, unquoted, family_read, families_kept, families_joined, families_read};
-ghost use Rattle.pur_csstok.specs.Written.{text_of};
+ghost use Rattle.pur_text.specs.Texts.{text_of};
 
 use crate::cuts::{Separator, cut};
 use crate::declarations::split_words;

@@ -4,7 +4,8 @@ ghost use Rattle.std.specs.List.{list_all, prefix_len};
 ghost use Rattle.std.specs.Str.{IsUtf8, chars};
 ghost use Rattle.pur_csstok.specs.Numbers.{is_digit, is_nought};
 ghost use Rattle.pur_csstok.specs.Lengths.{is_number_character, is_unit, units, length_with, number_len, length_lowered, length_read};
-ghost use Rattle.pur_csstok.specs.Written.{number_in, text_of};
+ghost use Rattle.pur_text.specs.Texts.{text_of};
+ghost use Rattle.pur_csstok.specs.Written.{number_in};
 
 use crate::digits::is_digit;
 use crate::numbers::{Number, number_of, push_number};

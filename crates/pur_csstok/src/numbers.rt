@@ -3,7 +3,8 @@ ghost use Rattle.std.specs.Prelude.{◌≡◌, ◌++◌, ◌==◌, ◌&&◌, ◌
 ghost use Rattle.std.specs.List.{list_all};
 ghost use Rattle.std.specs.Str.{chars};
 ghost use Rattle.pur_csstok.specs.Numbers.{Number, is_digit, behind_sign, front_digits, behind_digits, is_fraction, is_numeral, is_nought, whole_digits, fraction_digits, number_written, is_permitted, number_of, number_text, number_read, number_with, sign_text, whole_text, fraction_text};
-ghost use Rattle.pur_csstok.specs.Written.{number_in, text_of};
+ghost use Rattle.pur_text.specs.Texts.{text_of};
+ghost use Rattle.pur_csstok.specs.Written.{number_in};
 
 use crate::digits::{
     are_digits, behind_first, cut_digits, without_leading_zeros, without_trailing_zeros,

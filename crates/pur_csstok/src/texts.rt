@@ -3,7 +3,7 @@ ghost use Rattle.std.specs.Prelude.{◌≡◌, ◌<◌, ◌++◌, ◌∷◌, ◌
 ghost use Rattle.std.specs.Char.{encode_utf8};
 ghost use Rattle.std.specs.List.{join_with_byte, list_all};
 ghost use Rattle.std.specs.Str.{IsUtf8, chars, str_to_ascii_lowercase};
-ghost use Rattle.pur_csstok.specs.Written.{text_of};
+ghost use Rattle.pur_text.specs.Texts.{text_of};
 
 use pur_text::lower_ascii;
 use std::alloc::{AllocError, Global};

@@ -3,7 +3,7 @@ ghost use Rattle.std.specs.Prelude.{◌≡◌, IfOk, option_map, if◌then◌els
 ghost use Rattle.std.specs.List.{list_any};
 ghost use Rattle.std.specs.Str.{chars};
 ghost use Rattle.pur_csstok.specs.Urls.{breaks_quotes, breaks_bare, without, argument_read, url_read};
-ghost use Rattle.pur_csstok.specs.Written.{text_of};
+ghost use Rattle.pur_text.specs.Texts.{text_of};
 
 use crate::ends::{argument_of, between};
 use pur_text::{is_space, trim};

@@ -8,7 +8,7 @@ use Rattle.std.specs.List.{list_all}
 use Rattle.std.specs.Str.{chars, bytes_eq}
 use Rattle.std.proofs.lemmas.Bool.{cases_Bool, cond-true, cond-false, and_parts, and_cases, or_cases, both_ways, ne_eqb, eqb-true}
 use Rattle.std.proofs.lemmas.Bool.Decides.{nat_tests}
-use Rattle.pur_entities.specs.Cuts.{is_plain}
+use Rattle.pur_entities.specs.Private.Cuts.{is_plain}
 use Rattle.pur_entities.specs.Entities.{Entity, latin_1, special, greek, other_symbols, entities, character_in, named_character}
 use Rattle.pur_entities.specs.References.{is_digit, numeral, is_hexadecimal, number_written, number_meant}
 use Rattle.pur_laws.proofs.Texts.{chars_ascii, is_ascii, same_chars}

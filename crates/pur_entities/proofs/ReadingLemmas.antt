@@ -10,7 +10,7 @@ use Rattle.std.specs.Option.{option_map_or}
 use Rattle.std.specs.Str.{chars}
 use Rattle.std.proofs.lemmas.Bool.Decides.{nat_tests}
 use Rattle.pur_text.specs.Characters.{is_allowed}
-use Rattle.pur_entities.specs.Cuts.{is_plain, is_inside, IsCutOff, HasNoBody}
+use Rattle.pur_entities.specs.Private.Cuts.{is_plain, is_inside, IsCutOff, HasNoBody}
 use Rattle.pur_entities.specs.References.{number_meant, before_semicolon, character_piece, reference_piece, piece_with, ampersand_piece, decoded}
 use Rattle.pur_laws.proofs.Texts.{chars_around, text_passes}
 use Rattle.pur_entities.proofs.BodyLemmas.{no_semicolon, nothing_meant, passes_plain}

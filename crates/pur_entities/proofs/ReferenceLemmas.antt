@@ -9,7 +9,7 @@ use Rattle.std.proofs.lemmas.Bool.{cases_Bool, cases_eq, not-true, cond-true, co
 use Rattle.std.proofs.lemmas.Bool.Decides.{nat_tests}
 use Rattle.std.proofs.lemmas.List.Folds.{list_all-append}
 use Rattle.pur_text.specs.Characters.{is_allowed}
-use Rattle.pur_entities.specs.Cuts.{is_plain, is_inside}
+use Rattle.pur_entities.specs.Private.Cuts.{is_plain, is_inside}
 use Rattle.pur_entities.specs.Entities.{Entity, latin_1, special, greek, other_symbols, entities, character_in, named_character}
 use Rattle.pur_entities.specs.References.{number_meant, before_semicolon, Piece, character_piece, reference_piece, piece_with, ampersand_piece, first_piece, decoded_behind, decoded}
 use Rattle.pur_text.specs.Escapes.{escape, escaped}

@@ -14,7 +14,7 @@ use Rattle.std.proofs.lemmas.Cmp.{nat_list_cmp_total}
 use Rattle.std.proofs.lemmas.List.Sorted.{searchable_from_sorted}
 use Rattle.std.proofs.lemmas.Map.Text.{is_eq-slice_cmp}
 use Rattle.pur_entities.specs.Entities.{Entity, entities, character_in, named_character}
-use Rattle.pur_entities.specs.Tables.{is_rising, is_right, is_whole}
+use Rattle.pur_entities.specs.Private.Tables.{is_rising, is_right, is_whole}
 
 -- a row as the code has it: a borrowed name, and its character
 abbrev pub Row : Type 0

@@ -1,4 +1,3 @@
-pub mod Cuts
 pub mod Entities
 pub mod References
-pub mod Tables
+pub mod Private

@@ -2,7 +2,7 @@
 ghost use Rattle.std.specs.Prelude.{◌≡◌, map, Some, IfSome, IsTrue};
 ghost use Rattle.std.specs.Str.{chars};
 ghost use Rattle.pur_entities.specs.Entities.{named_character};
-ghost use Rattle.pur_entities.specs.Tables.{is_rising, is_right, is_whole};
+ghost use Rattle.pur_entities.specs.Private.Tables.{is_rising, is_right, is_whole};
 
 // Each name and its character, in the order of the names' bytes.
 static ENTITIES: [(&str, char); 253] = [

@@ -4,7 +4,7 @@ ghost use Rattle.std.specs.List.{list_all};
 ghost use Rattle.std.specs.Str.{chars, IsUtf8};
 ghost use Rattle.pur_text.specs.Characters.{is_allowed};
 ghost use Rattle.pur_entities.specs.References.{numeral, number_written, number_meant, decoded};
-ghost use Rattle.pur_entities.specs.Cuts.{is_plain, is_inside, HasNoBody};
+ghost use Rattle.pur_entities.specs.Private.Cuts.{is_plain, is_inside, HasNoBody};
 
 use crate::entities::lookup;
 use memchr::{memchr, memchr2};

@@ -3,7 +3,7 @@
 ghost use Rattle.std.specs.Io.KnownBytes.{ReadConsumes};
 ghost use Rattle.std.specs.Prelude.{◌≡◌, ◌≢◌, ◌^◌, ◌<◌, ◌≤◌, length, false, not, Some, None, option_map, string_bytes, is_err, is_some, IfOk, IfSome, OnErr, IsErr, IsOk, IsTrue};
 ghost use Rattle.pur_io.specs.Faults.{one_more, HasCause};
-ghost use Rattle.pur_io.specs.Choices.{name_of, can_read, file_of};
+ghost use Rattle.pur_io.specs.Private.Choices.{name_of, can_read, file_of};
 ghost use Rattle.pur_io.specs.Shelves.{FileShelfState};
 
 use crate::traits::{Failed, Shelf};

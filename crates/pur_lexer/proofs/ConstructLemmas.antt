@@ -17,7 +17,7 @@ use Rattle.pur_laws.proofs.Texts.{ascii_at, chars_ascii, is_ascii, same_chars}
 use Rattle.pur_tokens.specs.Tokens.{PlainToken, text_token, start_token, end_token, empty_token, hidden_token, comment_token}
 use Rattle.pur_lexer.specs.Places.{begins_with, begins_with_mark, is_character, run_to, rest_from}
 use Rattle.pur_lexer.specs.Tags.{lowered, is_letter, ends_tag_name, TagEnd, tag_end}
-use Rattle.pur_lexer.specs.Cutting.{IsMark}
+use Rattle.pur_lexer.specs.Private.Cutting.{IsMark}
 use Rattle.pur_lexer.specs.Constructs.{Construct, dropped, gives_one, closed_by, through_mark, end_tag_of, is_hiding, is_end_mark, hidden_of, tag_by_end, tag_of, tag_or_text, markup_of}
 use Rattle.pur_lexer.proofs.CutLemmas.{begins_not}
 use Rattle.pur_lexer.proofs.PlaceLemmas.{first_is_plain}

@@ -14,7 +14,7 @@ use Rattle.pur_lexer.specs.Places.{begins_with, begins_with_mark, is_character, 
 use Rattle.pur_lexer.specs.Tags.{Step, end_step, attribute_step, TagEnd, with_attributes, end_by_step, step_of, tag_end_behind, tag_end, with_first_of_names, lowered, ends_tag_name, is_letter}
 use Rattle.pur_lexer.specs.Constructs.{Construct, gives_one, closed_by, through_mark, end_tag_of, is_hiding, is_end_mark, hidden_of, tag_by_end, tag_of, tag_or_text, markup_of, plain_text, construct_of}
 use Rattle.pur_lexer.specs.Lexing.{given_behind, tokens_of}
-use Rattle.pur_lexer.specs.Readings.{construct_with, left_of}
+use Rattle.pur_lexer.specs.Private.Readings.{construct_with, left_of}
 use Rattle.pur_lexer.proofs.TagEndLemmas.{IsRestOf, rest_of_rest, behind, whole, further, from_place, at_rest, GoesOn, step_of-goes}
 
 -- each construct ends at a rest of the text

@@ -22,7 +22,7 @@ use Rattle.pur_lexer.specs.declared.places.Stop.{Stop}
 use Rattle.pur_lexer.specs.declared.places.Stop.TheVariants.{TagName, AttributeName, Gap, Space, BareValue}
 use Rattle.pur_lexer.specs.Tags.{ends_tag_name, ends_attribute_name, ends_gap, ends_space, ends_bare_value}
 use Rattle.pur_lexer.specs.Constructs.{begins_with_name, is_end_mark}
-use Rattle.pur_lexer.specs.Cutting.{stops_at, IsFirstPlace, IsMark}
+use Rattle.pur_lexer.specs.Private.Cutting.{stops_at, IsFirstPlace, IsMark}
 
 -- the first place where the test passes cuts the list
 pub run_to-place : (test : List ℕ → Bool) (bytes : List ℕ) (n : ℕ) → IsFirstPlace test bytes n → take n bytes ≡ run_to test bytes

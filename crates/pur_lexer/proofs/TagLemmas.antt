@@ -12,7 +12,7 @@ use Rattle.std.proofs.lemmas.Str.Ascii.{lowercase_ascii}
 use Rattle.pur_tokens.specs.Attributes.{Attribute, with_new}
 use Rattle.pur_lexer.specs.Places.{begins_with, is_character, run_to, rest_from}
 use Rattle.pur_lexer.specs.Tags.{ends_space, ends_attribute_name, with_raw_value, lowered, raw_value, quoted_value, bare_value, attribute_behind, named_attribute, attribute_at}
-use Rattle.pur_lexer.specs.Readings.{with_all_new}
+use Rattle.pur_lexer.specs.Private.Readings.{with_all_new}
 use Rattle.pur_laws.proofs.Texts.{chars_past}
 use Rattle.pur_laws.proofs.Sequences.{are_high, high_bytes}
 use Rattle.std.proofs.lemmas.Bool.{false_from_ne_true}

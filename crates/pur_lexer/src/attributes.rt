@@ -4,7 +4,7 @@ ghost use Rattle.std.specs.Option.{option_map};
 ghost use Rattle.std.specs.Str.{chars, IsUtf8};
 ghost use Rattle.pur_tokens.specs.Texts.{text_of};
 ghost use Rattle.pur_lexer.specs.Tags.{quoted_value, raw_value, attribute_behind, attribute_at, tag_end};
-ghost use Rattle.pur_lexer.specs.Readings.{with_all_new, tag_end_with};
+ghost use Rattle.pur_lexer.specs.Private.Readings.{with_all_new, tag_end_with};
 
 use crate::places::{Stop, behind_first, cut_at, cut_at_character};
 use pur_entities::decode;

@@ -6,9 +6,9 @@ ghost use Rattle.pur_tokens.specs.Texts.{text_of};
 ghost use Rattle.pur_tokens.specs.Tokens.{plain_token, comment_token, text_token};
 ghost use Rattle.pur_lexer.specs.Places.{begins_with, begins_with_mark, is_character, run_to, rest_from};
 ghost use Rattle.pur_lexer.specs.Tags.{is_letter};
-ghost use Rattle.pur_lexer.specs.Cutting.{IsMark};
+ghost use Rattle.pur_lexer.specs.Private.Cutting.{IsMark};
 ghost use Rattle.pur_lexer.specs.Constructs.{through_mark, end_tag_of, is_hiding, hidden_of, tag_of, tag_or_text, markup_of};
-ghost use Rattle.pur_lexer.specs.Readings.{construct_with};
+ghost use Rattle.pur_lexer.specs.Private.Readings.{construct_with};
 
 use crate::attributes::cut_tag_end;
 use crate::places::{Stop, behind_first, cut_at, cut_at_character, cut_at_end_mark, cut_at_mark};

@@ -44,7 +44,7 @@ impl<'a> Model for Lexer<'a> {
     ghost use Rattle.std.specs.Prelude.{List};
     ghost use Rattle.std.specs.Str.{chars};
     ghost use Rattle.pur_tokens.specs.Tokens.{PlainToken};
-    ghost use Rattle.pur_lexer.specs.Readings.{left_of};
+    ghost use Rattle.pur_lexer.specs.Private.Readings.{left_of};
 
     ghost Value = { List PlainToken };
 

@@ -4,7 +4,7 @@ ghost use Rattle.std.specs.Str.{chars, IsUtf8};
 ghost use Rattle.pur_lexer.specs.Places.{begins_with, begins_with_mark, is_character, run_to, rest_from};
 ghost use Rattle.pur_lexer.specs.Tags.{ends_tag_name};
 ghost use Rattle.pur_lexer.specs.Constructs.{begins_with_name, is_end_mark};
-ghost use Rattle.pur_lexer.specs.Cutting.{stops_at, IsFirstPlace, IsMark};
+ghost use Rattle.pur_lexer.specs.Private.Cutting.{stops_at, IsFirstPlace, IsMark};
 
 use memchr::{memchr, memmem};
 

@@ -7,7 +7,7 @@ use Rattle.std.proofs.lemmas.Bool.{and_from, and_parts, le-leb, leb-true, not-tr
 use Rattle.pur_modules.specs.declared.kinds.Child.{Child}
 use Rattle.pur_modules.specs.Expressions.{Step}
 use Rattle.pur_models.specs.Languages.{IsInLanguage, IsInWay, first_way, has_disjoint_steps, has_letter, later_way, letters_in, no_step, step_first}
-use Rattle.pur_models.specs.Runs.{longest_run}
+use Rattle.pur_models.specs.Private.Runs.{longest_run}
 use Rattle.pur_models.proofs.RunLemmas.{IsRun-longest, begins_elsewhere, letters_of_way, longest_run-run}
 
 -- whether taking the longest run for each step uses the word up

@@ -11,7 +11,7 @@ use Rattle.pur_modules.specs.Expressions as plain
 use Rattle.pur_models.specs.declared.expressions.Step.{Step}
 use Rattle.pur_models.specs.Images.{step_of, way_of}
 use Rattle.pur_models.specs.Languages.{IsInLanguage, IsInWay, first_way, has_disjoint_steps, later_way}
-use Rattle.pur_models.specs.Runs.{longest_run}
+use Rattle.pur_models.specs.Private.Runs.{longest_run}
 use Rattle.pur_models.proofs.CuttingLemmas.{is_cut}
 
 -- a step whose longest run is too short ends the cutting

@@ -1,4 +1,4 @@
 pub mod Languages
 pub mod Images
-pub mod Runs
 pub mod Laws
+pub mod Private

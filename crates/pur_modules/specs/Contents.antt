@@ -1,5 +1,6 @@
 -- Which element holds which content, and which excludes which (XHTML 1.0, the two DTDs and appendix B).
 use Rattle.std.specs.Prelude.{Bool, true, false, List, [], ◌∷◌, ◌++◌, Option, Some, None, unwrap_or, if◌then◌else◌}
+use Rattle.std.specs.List.{list_any}
 use Rattle.pur_names.specs.declared.elements.Element.{Element}
 use Rattle.pur_names.specs.declared.elements.Element.TheVariants.{A, Address, Bdo, Big, Blockquote, Br, Caption, Center, Col, Colgroup, Dd, Del, Dir, Div, Dl, Dt, Font, H1, H2, H3, H4, H5, H6, Hr, Img, Ins, Li, Menu, Ol, P, Pre, Small, Span, Sub, Sup, Table, Tbody, Td, Tfoot, Th, Thead, Tr, Ul}
 use Rattle.pur_modules.specs.declared.kinds.Content.{Content}
@@ -72,3 +73,7 @@ excluded_by element = []
 -- whether an element must not stand in another, at any depth
 abbrev pub is_excluded : Element → Element → Bool
 is_excluded outer inner = is_among (excluded_by outer) inner
+
+-- whether an element must not stand inside of others, of which it is enough that one excludes it
+abbrev pub is_excluded_in : List Element → Element → Bool
+is_excluded_in outer element = list_any (λ one. is_excluded one element) outer

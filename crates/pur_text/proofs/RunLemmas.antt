@@ -13,7 +13,7 @@ use Rattle.pur_laws.proofs.Lists.{all-parts, all-prefix}
 use Rattle.pur_laws.proofs.Places.{position-found, position-missed}
 use Rattle.pur_laws.proofs.Sequences.{by_length}
 use Rattle.pur_text.specs.Characters.{is_allowed}
-use Rattle.pur_text.specs.Runs.{needs_care}
+use Rattle.pur_text.specs.Private.Runs.{needs_care}
 
 abbrev is_quiet : ℕ → Bool
 is_quiet b = not (needs_care b)

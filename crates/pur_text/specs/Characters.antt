@@ -1,5 +1,6 @@
 -- Sets of characters, as tests of a character's code.
-use Rattle.std.specs.Prelude.{ℕ, Bool, ◌==◌, ◌||◌, ◌&&◌, nat_le}
+use Rattle.std.specs.Prelude.{ℕ, Bool, ◌==◌, ◌||◌, ◌&&◌, nat_le, List}
+use Rattle.std.specs.List.{list_all}
 
 -- the code lies between two others, these included
 abbrev pub is_between : ℕ → ℕ → ℕ → Bool
@@ -15,3 +16,7 @@ is_allowed c =
 -- white space: the characters of XML 1.0, section 2.3, but for CR
 abbrev pub is_space : ℕ → Bool
 is_space c = c == 0x20 || c == 0x9 || c == 0xA
+
+-- a text is white space alone
+abbrev pub is_blank : List ℕ → Bool
+is_blank text = list_all is_space text

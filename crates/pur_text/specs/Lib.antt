@@ -2,5 +2,6 @@ pub mod Characters
 pub mod Cleaning
 pub mod Escapes
 pub mod Hosts
-pub mod Runs
+pub mod Texts
 pub mod Trimming
+pub mod Private

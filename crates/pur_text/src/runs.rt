@@ -1,7 +1,7 @@
 //! The bytes at which a run of allowed characters may end.
 ghost use Rattle.std.specs.Prelude.{◌≡◌};
 ghost use Rattle.std.specs.List.{position};
-ghost use Rattle.pur_text.specs.Runs.{needs_care};
+ghost use Rattle.pur_text.specs.Private.Runs.{needs_care};
 
 // `!` stands for each byte that begins a CR or a character that isn't allowed, or may begin one: the controls but TAB and
 // LF, U+007F, 0xC2 (it begins U+0080 to U+00BF) and 0xEF (it begins U+F000 to U+FFFF).

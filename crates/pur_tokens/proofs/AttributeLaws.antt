@@ -4,7 +4,7 @@ use Rattle.std.proofs.lemmas.List.{append-nil}
 use Rattle.std.specs.Str.{chars, IsUtf8}
 use Rattle.pur_tokens.specs.Texts.{byte_count}
 use Rattle.pur_tokens.specs.Attributes.{Attribute, is_same_text, names_of, values_of, has_name, is_distinct, value_of, with_value, with_new, without, first_of_names, weight_of}
-use Rattle.pur_tokens.specs.Places.{with_value_at}
+use Rattle.pur_tokens.specs.Private.Places.{with_value_at}
 use Rattle.pur_tokens.proofs.TextLaws.{same_text, is_same_text-refl, is_same_text-sym, byte_count-chars}
 
 pub both_false : (a b : Bool) → (a || b) ≡ false → (a ≡ false) × (b ≡ false)

@@ -9,8 +9,9 @@ use Rattle.std.proofs.lemmas.List.{length-map, map-append}
 use Rattle.std.proofs.lemmas.Str.{IsUtf8-string_bytes}
 use Rattle.pur_tokens.specs.Texts.{text_of}
 use Rattle.pur_tokens.specs.Attributes.{names_of, has_name, is_distinct}
-use Rattle.pur_tokens.specs.Places.{place_of, moved_down}
-use Rattle.pur_tokens.specs.Pairs.{attribute_of, stored_names, IsIndexOf}
+use Rattle.pur_tokens.specs.Private.Places.{place_of, moved_down}
+use Rattle.pur_tokens.specs.Pairs.{attribute_of}
+use Rattle.pur_tokens.specs.Private.Index.{stored_names, IsIndexOf}
 use Rattle.pur_tokens.specs.declared.stored_pair.Pair.{Pair}
 use Rattle.pur_tokens.proofs.TextLaws.{same_text, is_same_text-sym}
 use Rattle.pur_tokens.proofs.AttributeLaws.{has_name-removed}

@@ -7,8 +7,9 @@ use Rattle.std.specs.declared.alloc.Global.{Global}
 use Rattle.std.proofs.lemmas.Grind.{common_steps}
 use Rattle.pur_tokens.specs.Texts.{text_of}
 use Rattle.pur_tokens.specs.Attributes.{Attribute, is_same_text, names_of, values_of, has_name}
-use Rattle.pur_tokens.specs.Places.{with_value_at, IsPlaceOf, place_of}
-use Rattle.pur_tokens.specs.Pairs.{attribute_of, stored_names}
+use Rattle.pur_tokens.specs.Private.Places.{with_value_at, IsPlaceOf, place_of}
+use Rattle.pur_tokens.specs.Pairs.{attribute_of}
+use Rattle.pur_tokens.specs.Private.Index.{stored_names}
 use Rattle.pur_tokens.specs.declared.stored_pair.Pair.{Pair}
 use Rattle.pur_tokens.proofs.TextLaws.{same_text, bytes_eq-stored}
 use Rattle.pur_tokens.proofs.AttributeLaws.{both_false}

@@ -1,8 +1,7 @@
 pub mod Texts
 pub mod Attributes
-pub mod Places
 pub mod Pairs
-pub mod Storage
 pub mod Tokens
 pub mod Joining
 pub mod Characters
+pub mod Private

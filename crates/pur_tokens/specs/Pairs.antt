@@ -1,20 +1,8 @@
--- What stored pairs and an index of their names stand for.
-use Rattle.std.specs.Prelude.{ℕ, ◌≡◌, List, map, String, string_bytes}
-use Rattle.std.specs.BTreeMap.{BTreeMap, get_by_text}
-use Rattle.std.specs.declared.alloc.Global.{Global}
+-- What a stored pair stands for.
 use Rattle.pur_tokens.specs.Texts.{text_of}
 use Rattle.pur_tokens.specs.Attributes.{Attribute}
-use Rattle.pur_tokens.specs.Places.{place_of}
 use Rattle.pur_tokens.specs.declared.stored_pair.Pair.{Pair}
 
 -- the attribute that a pair is
 abbrev pub attribute_of : Pair → Attribute
 attribute_of pair = (text_of pair.name, text_of pair.value)
-
--- the bytes of the names
-abbrev pub stored_names : List Pair → List (List ℕ)
-stored_names pairs = map (λ pair. string_bytes pair.name) pairs
-
--- the map has each name with its first place, and no other name
-pub record IsIndexOf (places : BTreeMap (String Global) ℕ) (names : List (List ℕ)) : Type 0 where
-  pub finds : (name : List ℕ) → get_by_text places name ≡ place_of names name

@@ -26,7 +26,7 @@ pub struct AttrList {
 impl Model for AttrList {
     ghost use Rattle.std.specs.Prelude.{List, IsTrue};
     ghost use Rattle.pur_tokens.specs.Attributes.{Attribute, is_distinct};
-    ghost use Rattle.pur_tokens.specs.Storage.{stored_of};
+    ghost use Rattle.pur_tokens.specs.Private.Storage.{stored_of};
 
     ghost Value = { List Attribute };
 

@@ -10,7 +10,7 @@ ghost use Rattle.std.specs.BTreeMap.{get_by_text};
 ghost use Rattle.pur_tokens.specs.Texts.{text_of};
 ghost use Rattle.pur_tokens.specs.Attributes.{names_of, values_of, has_name, is_distinct};
 ghost use Rattle.pur_tokens.specs.Pairs.{attribute_of};
-ghost use Rattle.pur_tokens.specs.Places.{with_value_at, IsPlaceOf, moved_down};
+ghost use Rattle.pur_tokens.specs.Private.Places.{with_value_at, IsPlaceOf, moved_down};
 
 use crate::stored_pair::Pair;
 use std::alloc::{AllocError, Global};
@@ -27,7 +27,8 @@ pub(crate) struct IndexedPairs {
 impl Model for IndexedPairs {
     ghost use Rattle.std.specs.Prelude.{List, map};
     ghost use Rattle.pur_tokens.specs.Attributes.{Attribute};
-    ghost use Rattle.pur_tokens.specs.Pairs.{attribute_of, stored_names, IsIndexOf};
+    ghost use Rattle.pur_tokens.specs.Pairs.{attribute_of};
+    ghost use Rattle.pur_tokens.specs.Private.Index.{stored_names, IsIndexOf};
 
     ghost Value = { List Attribute };
 

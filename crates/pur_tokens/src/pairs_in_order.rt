@@ -10,8 +10,8 @@ ghost use Rattle.std.specs.Str.{chars};
 ghost use Rattle.pur_tokens.specs.Texts.{text_of};
 ghost use Rattle.pur_tokens.specs.Attributes.{names_of, values_of, has_name, is_distinct};
 ghost use Rattle.pur_tokens.specs.Pairs.{attribute_of};
-ghost use Rattle.pur_tokens.specs.Places.{with_value_at, IsPlaceOf};
-ghost use Rattle.pur_tokens.specs.Storage.{attributes_of};
+ghost use Rattle.pur_tokens.specs.Private.Places.{with_value_at, IsPlaceOf};
+ghost use Rattle.pur_tokens.specs.Private.Storage.{attributes_of};
 
 use crate::indexed_pairs::IndexedPairs;
 use crate::stored_pair::{Pair, position_among};

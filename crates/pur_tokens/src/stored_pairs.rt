@@ -8,8 +8,8 @@ ghost use Rattle.std.specs.Str.{chars};
 ghost use Rattle.pur_tokens.specs.Texts.{text_of};
 ghost use Rattle.pur_tokens.specs.Attributes.{names_of, values_of, has_name, is_distinct};
 ghost use Rattle.pur_tokens.specs.Pairs.{attribute_of};
-ghost use Rattle.pur_tokens.specs.Places.{with_value_at, IsPlaceOf};
-ghost use Rattle.pur_tokens.specs.Storage.{attributes_of, stored_of};
+ghost use Rattle.pur_tokens.specs.Private.Places.{with_value_at, IsPlaceOf};
+ghost use Rattle.pur_tokens.specs.Private.Storage.{attributes_of, stored_of};
 
 use crate::pairs_in_order::PairsInOrder;
 use crate::stored_pair::Pair;

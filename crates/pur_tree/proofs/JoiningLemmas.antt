@@ -1,7 +1,7 @@
 -- Whether nodes are joined behind a text.
 use Rattle.std.proofs.Common.{◌≡◌, ℕ, List, Bool, true, false, refl}
 use Rattle.pur_tree.specs.Nodes.{PlainElem, Nodes, text_first, elem_first, is_joined}
-use Rattle.pur_tree.specs.Joining.{joined_behind}
+use Rattle.pur_tree.specs.Private.Joining.{joined_behind}
 
 pub text_apart : (b : Bool) (s : List ℕ) (rest : Nodes) → b ≡ false → joined_behind true rest ≡ joined_behind b (text_first s rest)
 text_apart true s rest h = absurd (cc)

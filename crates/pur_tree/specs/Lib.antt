@@ -1,7 +1,6 @@
 pub mod Building
 pub mod Forests
 pub mod Image
-pub mod Joining
 pub mod Laws
 pub mod Nodes
 pub mod Places
@@ -9,3 +8,5 @@ pub mod Properties
 pub mod Spelling
 pub mod Tokens
 pub mod Walks
+pub mod Words
+pub mod Private

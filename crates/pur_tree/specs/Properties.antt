@@ -1,9 +1,13 @@
 -- Properties of nodes at every depth.
-use Rattle.std.specs.Prelude.{List, ℕ, ◌≡◌, ◌≤◌, ◌<◌, Bool, true, false, length}
+use Rattle.std.specs.Prelude.{List, ◌∷◌, ℕ, ◌≡◌, ◌≤◌, ◌<◌, ◌||◌, Bool, true, false, length}
 use Rattle.std.specs.List.{list_all}
-use Rattle.pur_text.specs.Characters.{is_allowed}
+use Rattle.pur_text.specs.Characters.{is_allowed, is_blank}
 use Rattle.pur_names.specs.declared.elements.Element.{Element}
-use Rattle.pur_modules.specs.Contents.{is_empty_element}
+use Rattle.pur_modules.specs.declared.kinds.Child.TheVariants.{Text, Elem}
+use Rattle.pur_modules.specs.declared.kinds.Content.{Content}
+use Rattle.pur_modules.specs.declared.kinds.Doctype.{Doctype}
+use Rattle.pur_modules.specs.Contents.{content_held, is_empty_element, is_excluded_in}
+use Rattle.pur_modules.specs.Expressions.{is_letter}
 use Rattle.pur_tree.specs.Nodes.{PlainElem, Nodes, no_nodes, text_first, elem_first}
 use Rattle.pur_tree.specs.Places as places
 use Rattle.pur_tree.specs.Spelling.{are_spellable}
@@ -46,4 +50,31 @@ spellable = record {
   text = λ at s. list_all is_allowed s ≡ true;
   elem = λ at e. are_spellable e.attrs ≡ true;
   inside = λ at e. tt;
+}
+
+-- all elements are permitted
+abbrev pub permitted : (Element → Bool) → Property
+permitted permits = record {
+  Where = Unit {0};
+  text = λ at s. Unit {0};
+  elem = λ at e. permits e.name ≡ true;
+  inside = λ at e. at;
+}
+
+-- each child is a letter of its parent's content, or white space text
+abbrev pub letters : Doctype → Property
+letters doctype = record {
+  Where = Content;
+  text = λ content s. (is_blank s || is_letter doctype content Text) ≡ true;
+  elem = λ content e. is_letter doctype content (Elem e.name) ≡ true;
+  inside = λ content e. content_held doctype e content;
+}
+
+-- no element stands in one that excludes it, at any depth; where is told by the elements round a node, innermost first
+abbrev pub free : Property
+free = record {
+  Where = List Element;
+  text = λ outer s. Unit {0};
+  elem = λ outer e. is_excluded_in outer e.name ≡ false;
+  inside = λ outer e. e ∷ outer;
 }

@@ -3,7 +3,7 @@
 ghost use Rattle.std.specs.Prelude.{◌≡◌, false, IfOk, OnOk, IfSome, IfNone, string_bytes};
 ghost use Rattle.std.specs.Str.{chars};
 ghost use Rattle.pur_tree.specs.Image.{node_before, nodes_of};
-ghost use Rattle.pur_tree.specs.Joining.{joining, joined_behind};
+ghost use Rattle.pur_tree.specs.Private.Joining.{joining, joined_behind};
 ghost use Rattle.pur_tree.specs.Nodes.{PlainElem, Nodes, no_nodes, text_first, elem_first, plain_elem, nodes_append, is_joined};
 ghost use Rattle.pur_tree.specs.Walks.{text_joined, joined_nodes};
 

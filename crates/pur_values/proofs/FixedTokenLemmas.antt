@@ -6,7 +6,7 @@ use Rattle.std.specs.List.{list_all, flat_map, onto_first}
 use Rattle.std.specs.Str.{bytes_eq, str_to_ascii_lowercase}
 use Rattle.std.proofs.lemmas.Bool.{cases_Bool, cond-true, cond-false, and_parts, and_from, not-true, eqb-true}
 use Rattle.pur_text.specs.Characters.{is_space}
-use Rattle.pur_values.specs.Seen.{passes}
+use Rattle.pur_values.specs.Private.Seen.{passes}
 use Rattle.pur_values.specs.Tokens.{pieces, distinct, joined, tokens_of, classes_of, relations_of, is_relation, relations}
 use Rattle.pur_values.specs.declared.tokens.TokenKind.{TokenKind}
 use Rattle.pur_values.specs.declared.tokens.TokenKind.TheVariants.{Class, Relation}

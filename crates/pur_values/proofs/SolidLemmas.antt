@@ -23,7 +23,7 @@ use Rattle.pur_values.specs.Choices.{alignments, words_of, numberings, is_font_s
 use Rattle.pur_values.specs.Colors.{is_bare, is_hex_digit}
 use Rattle.pur_values.specs.Kinds.{is_declared, keywords_of}
 use Rattle.pur_values.specs.Numbers.{is_pixel_unit}
-use Rattle.pur_values.specs.Seen.{passes}
+use Rattle.pur_values.specs.Private.Seen.{passes}
 use Rattle.pur_values.specs.Tokens.{is_id, is_id_character, is_language, is_subtag, is_class_start, is_class_character, relations}
 use Rattle.pur_values.specs.Words.{is_among, is_digit, is_letter, is_letter_or_digit}
 use Rattle.pur_values.specs.declared.tokens.TokenKind.{TokenKind}

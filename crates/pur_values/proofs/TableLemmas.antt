@@ -7,7 +7,7 @@ use Rattle.pur_names.specs.declared.elements.Element.{Element}
 use Rattle.pur_names.proofs.AttrLaws.{all_attrs-rank}
 use Rattle.pur_names.proofs.ElementLaws.{all_elements-rank}
 use Rattle.pur_modules.specs.AttributeLists.{attributes_of}
-use Rattle.pur_values.specs.ByName.{declared_kind}
+use Rattle.pur_values.specs.Private.ByName.{declared_kind}
 use Rattle.pur_values.specs.Kinds.{kind_of, is_declared}
 
 -- two functions that agree on a list agree at each of its items

@@ -8,7 +8,7 @@ use Rattle.std.proofs.lemmas.Str.{chars-append}
 use Rattle.pur_laws.proofs.Cases.{ChangesAscii}
 use Rattle.pur_laws.proofs.Texts.{chars_past}
 use Rattle.pur_values.specs.Numbers.{is_empty}
-use Rattle.pur_values.specs.Seen.{put}
+use Rattle.pur_values.specs.Private.Seen.{put}
 use Rattle.pur_values.specs.Values.{spaced}
 
 spaced_ascii : (c : ℕ) → c < 128 → spaced c < 128

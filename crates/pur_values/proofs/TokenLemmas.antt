@@ -6,7 +6,7 @@ use Rattle.std.specs.Str.{bytes_eq}
 use Rattle.std.proofs.lemmas.Bool.{cases_Bool, cond-true, cond-false, and_parts, and_from, not-true}
 use Rattle.std.proofs.lemmas.Slice.Eq.{bytes_eq-Decides}
 use Rattle.pur_values.specs.Numbers.{is_empty}
-use Rattle.pur_values.specs.Seen.{fresh, passes, put, put_all}
+use Rattle.pur_values.specs.Private.Seen.{fresh, passes, put, put_all}
 use Rattle.pur_values.specs.Tokens.{distinct, joined, relations}
 use Rattle.pur_values.specs.declared.tokens.TokenKind.{TokenKind}
 use Rattle.pur_values.specs.declared.tokens.TokenKind.TheVariants.{Class, Relation}

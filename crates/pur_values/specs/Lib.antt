@@ -1,10 +1,9 @@
-pub mod ByName
 pub mod Choices
 pub mod Colors
 pub mod Kinds
 pub mod Laws
 pub mod Numbers
-pub mod Seen
 pub mod Tokens
 pub mod Values
 pub mod Words
+pub mod Private

@@ -24,7 +24,3 @@ is_among words word = list_any (λ other. bytes_eq word other) words
 -- the text where it has a form, and none where it hasn't
 abbrev pub kept_where : Bool → List ℕ → Option (List ℕ)
 kept_where has text = if has then Some text else None
-
--- the characters of a text
-abbrev pub text_of : String Global → List ℕ
-text_of text = chars (string_bytes text)

@@ -5,7 +5,8 @@ ghost use Rattle.std.specs.List.{list_all};
 ghost use Rattle.std.specs.Str.{chars};
 ghost use Rattle.pur_values.specs.Choices.{alignments, bullets, bullet_of, is_font_size, is_size_digit, item_of, lowered_among, numberings, numbering_of, words_of};
 ghost use Rattle.pur_values.specs.Kinds.{keywords_of};
-ghost use Rattle.pur_values.specs.Words.{is_among, text_of};
+ghost use Rattle.pur_text.specs.Texts.{text_of};
+ghost use Rattle.pur_values.specs.Words.{is_among};
 
 use crate::kinds::is_declared;
 use crate::words::{is_among, kept_where, lower};

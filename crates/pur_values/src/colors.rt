@@ -3,7 +3,7 @@ ghost use Rattle.std.specs.Prelude.{◌≡◌, ◌∷◌, IfOk, option_map};
 ghost use Rattle.std.specs.List.{list_all};
 ghost use Rattle.std.specs.Str.{chars};
 ghost use Rattle.pur_values.specs.Colors.{color_of, is_bare, is_hex_digit};
-ghost use Rattle.pur_values.specs.Words.{text_of};
+ghost use Rattle.pur_text.specs.Texts.{text_of};
 
 use std::alloc::{AllocError, Global};
 

@@ -3,7 +3,7 @@ ghost use Rattle.std.specs.Prelude.{◌≡◌, ◌&&◌, ◌||◌, not, is_some,
 ghost use Rattle.std.specs.List.{list_any};
 ghost use Rattle.pur_names.specs.Attributes.{same_attr};
 ghost use Rattle.pur_values.specs.Laws.{IsSound};
-ghost use Rattle.pur_values.specs.ByName.{declared_kind, kind_by_name, size_kind, type_kind, width_kind};
+ghost use Rattle.pur_values.specs.Private.ByName.{declared_kind, kind_by_name, size_kind, type_kind, width_kind};
 ghost use Rattle.pur_values.specs.Kinds.{is_declared, is_elsewhere, kind_of};
 
 use pur_modules::{Doctype, attributes};

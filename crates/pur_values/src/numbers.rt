@@ -4,7 +4,8 @@ ghost use Rattle.std.specs.Char.{is_ascii};
 ghost use Rattle.std.specs.Fmt.{decimal};
 ghost use Rattle.std.specs.List.{list_all, prefix_len};
 ghost use Rattle.std.specs.Str.{IsUtf8, bytes_eq, chars};
-ghost use Rattle.pur_values.specs.Words.{is_digit, text_of};
+ghost use Rattle.pur_text.specs.Texts.{text_of};
+ghost use Rattle.pur_values.specs.Words.{is_digit};
 ghost use Rattle.pur_values.specs.Numbers.{digits_of, is_empty, is_pixel_unit, length_of, measure, multi_length_of, number_of, numeral, pixels, pixels_of, pixels_or_part, pixels_part_or_share, shares, unit_of};
 
 use crate::words::is_digit;

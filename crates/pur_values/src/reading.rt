@@ -5,7 +5,7 @@ ghost use Rattle.pur_text.specs.Trimming.{trimmed};
 ghost use Rattle.pur_names.specs.Attributes.{attr_name};
 ghost use Rattle.pur_values.specs.Laws.{HasRange};
 ghost use Rattle.pur_values.specs.Values.{is_trimmed, spaced, trimmed_value_of, value_of};
-ghost use Rattle.pur_values.specs.Words.{text_of};
+ghost use Rattle.pur_text.specs.Texts.{text_of};
 
 use crate::choices::{is_font_size, read_bullet, read_item, read_keyword, read_numbering};
 use crate::colors::read_color;

@@ -4,9 +4,10 @@ ghost use Rattle.std.specs.List.{list_all, position, slice_split};
 ghost use Rattle.std.specs.Str.{IsUtf8, bytes_eq, chars};
 ghost use Rattle.pur_text.specs.Characters.{is_space};
 ghost use Rattle.pur_values.specs.Numbers.{is_empty};
-ghost use Rattle.pur_values.specs.Words.{is_letter, is_letter_or_digit, text_of};
+ghost use Rattle.pur_text.specs.Texts.{text_of};
+ghost use Rattle.pur_values.specs.Words.{is_letter, is_letter_or_digit};
 ghost use Rattle.pur_values.specs.Tokens.{classes_of, is_class, is_class_character, is_class_start, is_id, is_id_character, is_language, is_subtag, before_dash, pieces, relations, relations_of, tokens_of};
-ghost use Rattle.pur_values.specs.Seen.{fresh, has, passes, put, put_all};
+ghost use Rattle.pur_values.specs.Private.Seen.{fresh, has, passes, put, put_all};
 
 use crate::numbers::is_nothing;
 use crate::words::{is_among, is_letter, is_letter_or_digit, lower};

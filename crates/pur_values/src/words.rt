@@ -1,7 +1,8 @@
 //! Letters and digits, and texts that are kept as they are or in lower case.
 ghost use Rattle.std.specs.Prelude.{◌≡◌, IfOk, option_map, map};
 ghost use Rattle.std.specs.Str.{chars, str_to_ascii_lowercase};
-ghost use Rattle.pur_values.specs.Words.{is_among, is_digit, is_letter, is_letter_or_digit, kept_where, text_of};
+ghost use Rattle.pur_text.specs.Texts.{text_of};
+ghost use Rattle.pur_values.specs.Words.{is_among, is_digit, is_letter, is_letter_or_digit, kept_where};
 
 use pur_text::lower_ascii;
 use std::alloc::{AllocError, Global};

@@ -26,9 +26,9 @@ use Rattle.pur_wellform.specs.declared.machine.Machine.{Machine}
 use Rattle.pur_wellform.specs.Closing.{followed_by, step, steps, end_all, closed, lost_in_closing}
 use Rattle.pur_wellform.specs.Standing.{can_be_closed}
 use Rattle.pur_wellform.specs.Invariants.{Kept}
-use Rattle.pur_wellform.specs.Opens.{tag_of, tags_under, AreOpenUnder}
+use Rattle.pur_wellform.specs.Private.Opens.{tag_of, tags_under, AreOpenUnder}
 use Rattle.pur_wellform.specs.Progress.{closed_behind}
-use Rattle.pur_wellform.specs.Machines.{state_of, IsMachine, Did, progress_of, IsClosing}
+use Rattle.pur_wellform.specs.Private.Machines.{state_of, IsMachine, Did, progress_of, IsClosing}
 use Rattle.pur_wellform.proofs.StepFacts.{good-step}
 
 pub closing_after : (rules : Rules) (old new : Machine) (token : PlainToken) → IsClosing rules old → can_be_closed rules token ≡ true

@@ -13,7 +13,8 @@ use Rattle.pur_tree.specs.Nodes.{PlainElem, plain_elem, Nodes, no_nodes, is_soun
 use Rattle.pur_tree.specs.Tokens.{Token, text_token, start_token, end_token, empty_token, opening_of, closing_of, joined, tokens_of_nodes}
 use Rattle.pur_tree.proofs.TokensLemmas.{joined-tree, none_of}
 use Rattle.pur_wellform.specs.Search.{allows, level_in, direct, is_shut, at_place, place_of}
-use Rattle.pur_wellform.specs.Closing.{State, Run, names, kept, is_blank, followed_by, start_step, reopen_before, reopen, put_tag, changed_to, enter_tag, for_element, end_step, step, steps, end_all, closed}
+use Rattle.pur_text.specs.Characters.{is_blank}
+use Rattle.pur_wellform.specs.Closing.{State, Run, names, kept, followed_by, start_step, reopen_before, reopen, put_tag, changed_to, enter_tag, for_element, end_step, step, steps, end_all, closed}
 use Rattle.pur_wellform.specs.Standing.{MayOpen, MayHold, Stands, nothing_stands, text_stands, element_stands}
 use Rattle.pur_wellform.specs.Laws.{as_read}
 use Rattle.pur_wellform.proofs.TableFacts.{left_of, right_of}

@@ -16,8 +16,8 @@ use Rattle.pur_wellform.specs.declared.machine.Machine.{Machine}
 use Rattle.pur_wellform.specs.declared.machine.Pending.{Pending}
 use Rattle.pur_wellform.specs.Search.{standing_in, level_in, is_shut}
 use Rattle.pur_wellform.specs.Closing.{State, Run, names, kept, both_runs, changed_to, enter, is_formatting, newest, close_inner, writing, enter_and_close}
-use Rattle.pur_wellform.specs.Opens.{tag_of, tags_under, tags_of, names_of, IsOpen, AreOpenUnder, AreOpen}
-use Rattle.pur_wellform.specs.Machines.{pending_tag, state_of, IsMachine, Did, leaving, waiting, carrying_out, settled}
+use Rattle.pur_wellform.specs.Private.Opens.{tag_of, tags_under, tags_of, names_of, IsOpen, AreOpenUnder, AreOpen}
+use Rattle.pur_wellform.specs.Private.Machines.{pending_tag, state_of, IsMachine, Did, leaving, waiting, carrying_out, settled}
 use Rattle.std.proofs.lemmas.List.{drop-map, length-map}
 use Rattle.pur_wellform.proofs.OpenFacts.{tags_of-more, open-more, innermost}
 

@@ -4,13 +4,12 @@ use Rattle.std.specs.List.{list_any}
 use Rattle.pur_names.specs.Elements.{same_element}
 use Rattle.pur_names.specs.declared.elements.Element.{Element}
 use Rattle.pur_names.specs.declared.elements.Element.TheVariants.{A, Pre}
-use Rattle.pur_modules.specs.Contents.{is_excluded}
+use Rattle.pur_modules.specs.Contents.{is_excluded, is_excluded_in}
 use Rattle.pur_settings.specs.Rules.{Rules}
 use Rattle.pur_tree.specs.Nodes.{PlainElem}
 use Rattle.pur_wellform.specs.declared.open_elements.Open.{Open}
-use Rattle.pur_wellform.specs.Search.{is_excluded_in}
 use Rattle.pur_wellform.specs.Closing.{names}
-use Rattle.pur_wellform.specs.Opens.{tag_of, tags_under, tags_of, names_of, IsOpen, AreOpenUnder, AreOpen}
+use Rattle.pur_wellform.specs.Private.Opens.{tag_of, tags_under, tags_of, names_of, IsOpen, AreOpenUnder, AreOpen}
 
 tags_under-more : (outer : List PlainElem) (os : List Open) (o : Open) → tags_under outer (os ++ (o ∷ [])) ≡ tag_of o ∷ tags_under outer os
 tags_under-more outer [] o = refl

@@ -3,12 +3,12 @@ use Rattle.std.proofs.Common.{◌≤◌, List, [], arith}
 use Rattle.pur_names.specs.declared.elements.Element.{Element}
 use Rattle.pur_settings.specs.Rules.{Rules}
 use Rattle.pur_tree.specs.Nodes.{Nodes, level_in}
-use Rattle.pur_tree.specs.Properties.{Holds}
+use Rattle.pur_tree.specs.Properties.{Holds, permitted, letters, free}
 use Rattle.pur_wellform.specs.Search as search
-use Rattle.pur_wellform.specs.Standing.{permitted, letters, free, Stands, nothing_stands, text_stands, element_stands}
+use Rattle.pur_wellform.specs.Standing.{Stands, nothing_stands, text_stands, element_stands}
 use Rattle.pur_wellform.specs.Laws.{IsClosed}
 
-stands_permitted : {rules : Rules} {es : List Element} {n : Nodes} → Stands rules es n → Holds (permitted rules) tt n
+stands_permitted : {rules : Rules} {es : List Element} {n : Nodes} → Stands rules es n → Holds (permitted (permits_element rules)) tt n
 stands_permitted nothing_stands = tt
 stands_permitted (text_stands m r) = (tt, stands_permitted r)
 stands_permitted (element_stands m k r) = (m.permitted, stands_permitted k, stands_permitted r)

@@ -3,10 +3,10 @@ use Rattle.std.proofs.Common.{◌≡◌, ℕ, zero, suc, ◌+◌, ◌-◌, ◌�
 use Rattle.std.specs.List.{list_any, list_all}
 use Rattle.pur_names.specs.declared.elements.Element.{Element}
 use Rattle.pur_modules.specs.declared.kinds.Child.TheVariants.{Elem}
-use Rattle.pur_modules.specs.Contents.{is_empty_element}
+use Rattle.pur_modules.specs.Contents.{is_empty_element, is_excluded_in}
 use Rattle.pur_settings.specs.Rules.{Rules, permits_element}
 use Rattle.pur_tree.specs.Tokens.{text_token, start_token, end_token, empty_token, opening_of, closing_of}
-use Rattle.pur_wellform.specs.Search.{allows, is_excluded_in, level_in, is_shut}
+use Rattle.pur_wellform.specs.Search.{allows, level_in, is_shut}
 use Rattle.pur_wellform.specs.Closing.{State, Run, names, changed_to, writing, losing, both_runs, is_formatting, kept, newest, pending_after, close_inner, enter, enter_and_close, cost, fits_again, enter_again, turn_of, turns_of, reopen, enter_tag}
 use Rattle.pur_tree.specs.Nodes.{PlainElem}
 use Rattle.pur_wellform.specs.Standing.{MayOpen, MayHold}

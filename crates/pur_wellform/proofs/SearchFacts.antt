@@ -5,7 +5,7 @@ use Rattle.pur_names.specs.declared.elements.Element.{Element}
 use Rattle.pur_modules.specs.declared.kinds.Child.TheVariants.{Elem}
 use Rattle.pur_settings.specs.Rules.{Rules}
 use Rattle.pur_wellform.specs.Search.{Entry, barred, direct, inside, entry, ends_search, Place, no_place, at_place, one_further, or_further, place_of, count_further, open_place}
-use Rattle.pur_wellform.specs.Opens.{is_open_way}
+use Rattle.pur_wellform.specs.Private.Opens.{is_open_way}
 
 here : (way : Entry) (further : Place) → is_open_way way ≡ true → or_further way further ≡ at_place 0 way
 here barred further h = absurd (cc)

@@ -3,10 +3,10 @@ use Rattle.std.proofs.Common.{◌≡◌, ℕ, suc, ◌-◌, List, [], ◌∷◌,
 use Rattle.std.specs.List.{list_all, list_any}
 use Rattle.std.proofs.lemmas.Bool.{and_parts, and_from}
 use Rattle.pur_laws.proofs.Lists.{all-append, all-drop, all-filter, all-parts, all-reverse, all-take}
-use Rattle.pur_text.specs.Characters.{is_allowed}
+use Rattle.pur_text.specs.Characters.{is_allowed, is_blank}
 use Rattle.pur_names.specs.Elements.{element_named}
 use Rattle.pur_names.specs.declared.elements.Element.{Element}
-use Rattle.pur_modules.specs.Contents.{is_empty_element}
+use Rattle.pur_modules.specs.Contents.{is_empty_element, is_excluded_in}
 use Rattle.pur_modules.specs.Wrappers.{is_running}
 use Rattle.pur_modules.specs.declared.kinds.Child.TheVariants.{Text, Elem}
 use Rattle.pur_tokens.specs.Attributes.{Attribute}
@@ -15,8 +15,8 @@ use Rattle.pur_settings.specs.Rules.{Rules}
 use Rattle.pur_tree.specs.Nodes.{PlainElem, plain_elem, bare, Nodes, no_nodes, text_first, elem_first}
 use Rattle.pur_tree.specs.Spelling.{are_spellable, is_spellable}
 use Rattle.pur_tree.specs.Tokens.{Token, text_token, start_token, end_token, empty_token, join_token, joined, tokens_of_nodes}
-use Rattle.pur_wellform.specs.Search.{level_in, is_excluded_in, Entry, barred, direct, inside, entry, wrapped, is_shut, Place, no_place, at_place, place_of, open_place}
-use Rattle.pur_wellform.specs.Closing.{State, Run, names, kept, is_blank, is_formatting, changed_to, writing, losing, followed_by, newest, pending_after, close_inner, enter, enter_and_close, cost, fits_again, enter_again, turn_of, turns_of, reopen, enter_wrapper, reopen_before, enter_tag, put_tag, put_at, start_step, put_text, put_text_by, text_step, without_newest, end_at, end_step, for_element, step, steps, end_all, first_state, run_of, closed}
+use Rattle.pur_wellform.specs.Search.{level_in, Entry, barred, direct, inside, entry, wrapped, is_shut, Place, no_place, at_place, place_of, open_place}
+use Rattle.pur_wellform.specs.Closing.{State, Run, names, kept, is_formatting, changed_to, writing, losing, followed_by, newest, pending_after, close_inner, enter, enter_and_close, cost, fits_again, enter_again, turn_of, turns_of, reopen, enter_wrapper, reopen_before, enter_tag, put_tag, put_at, start_step, put_text, put_text_by, text_step, without_newest, end_at, end_step, for_element, step, steps, end_all, first_state, run_of, closed}
 use Rattle.pur_wellform.specs.Standing.{is_spellable_tag, is_spellable_read, is_spellable_written}
 
 abbrev TagsFine : List PlainElem → Type 0

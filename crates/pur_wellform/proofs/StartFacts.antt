@@ -9,11 +9,12 @@ use Rattle.pur_settings.specs.Rules.{Rules, permits_element}
 use Rattle.pur_tree.specs.Nodes.{PlainElem}
 use Rattle.pur_wellform.specs.declared.open_elements.Open.{Open}
 use Rattle.pur_wellform.specs.declared.machine.Machine.{Machine}
-use Rattle.pur_wellform.specs.Search.{level_in, is_excluded_in, Entry, barred, direct, inside, wrapped, Place, at_place, place_of}
+use Rattle.pur_modules.specs.Contents.{is_excluded_in}
+use Rattle.pur_wellform.specs.Search.{level_in, Entry, barred, direct, inside, wrapped, Place, at_place, place_of}
 use Rattle.pur_wellform.specs.Closing.{State, names, changed_to, followed_by, close_inner, enter_wrapper, reopen_before, enter_tag, put_tag, put_at, start_step}
 use Rattle.pur_wellform.specs.Invariants.{Kept}
-use Rattle.pur_wellform.specs.Opens.{tag_of, tags_of, names_of, AreOpenUnder, AreOpen}
-use Rattle.pur_wellform.specs.Machines.{state_of, IsMachine, Did, CanWrap}
+use Rattle.pur_wellform.specs.Private.Opens.{tag_of, tags_of, names_of, AreOpenUnder, AreOpen}
+use Rattle.pur_wellform.specs.Private.Machines.{state_of, IsMachine, Did, CanWrap}
 use Rattle.pur_wellform.proofs.TableFacts.{wrapper_is_full}
 use Rattle.pur_wellform.proofs.ListFacts.{nat_le_false}
 use Rattle.std.proofs.lemmas.List.{drop-map}

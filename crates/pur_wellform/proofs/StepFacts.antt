@@ -5,7 +5,7 @@ use Rattle.pur_names.specs.Elements.{element_named, same_element}
 use Rattle.pur_names.specs.declared.elements.Element.{Element}
 use Rattle.pur_names.specs.declared.elements.Element.TheVariants.{Tr}
 use Rattle.pur_modules.specs.declared.kinds.Child.TheVariants.{Text, Elem}
-use Rattle.pur_modules.specs.Contents.{is_excluded}
+use Rattle.pur_modules.specs.Contents.{is_excluded, is_excluded_in}
 use Rattle.pur_modules.specs.Wrappers.{is_running}
 use Rattle.pur_tokens.specs.Attributes.{Attribute}
 use Rattle.pur_settings.specs.Rules.{Rules, permits_element}
@@ -13,8 +13,9 @@ use Rattle.pur_tree.specs.Tokens.{text_token}
 use Rattle.pur_tree.specs.Places as levels
 use Rattle.pur_tree.specs.Nodes.{PlainElem, plain_elem, bare}
 use Rattle.pur_tokens.specs.Tokens as read
-use Rattle.pur_wellform.specs.Search.{content_in, allows, is_excluded_in, standing_in, level_in, Entry, barred, direct, inside, entry, wrapped, Place, no_place, at_place, place_of, open_place}
-use Rattle.pur_wellform.specs.Closing.{State, Run, names, changed_to, writing, losing, followed_by, is_blank, close_inner, reopen, enter_wrapper, reopen_before, enter_tag, put_tag, put_at, start_step, put_text, put_text_by, text_step, without_newest, end_at, end_step, for_element, step, steps, end_all, first_state, run_of}
+use Rattle.pur_wellform.specs.Search.{content_in, allows, standing_in, level_in, Entry, barred, direct, inside, entry, wrapped, Place, no_place, at_place, place_of, open_place}
+use Rattle.pur_text.specs.Characters.{is_blank}
+use Rattle.pur_wellform.specs.Closing.{State, Run, names, changed_to, writing, losing, followed_by, close_inner, reopen, enter_wrapper, reopen_before, enter_tag, put_tag, put_at, start_step, put_text, put_text_by, text_step, without_newest, end_at, end_step, for_element, step, steps, end_all, first_state, run_of}
 use Rattle.pur_wellform.specs.Standing.{MayOpen, can_be_closed}
 use Rattle.pur_settings.specs.Rules.{permits_found}
 use Rattle.pur_wellform.specs.Invariants.{Writes, is_pendable, Kept, GoodRun}

@@ -12,10 +12,11 @@ use Rattle.pur_tree.specs.Nodes.{PlainElem, bare}
 use Rattle.pur_wellform.specs.declared.machine.Machine.{Machine}
 use Rattle.pur_wellform.specs.declared.machine.Pending.{Pending}
 use Rattle.pur_wellform.specs.Search.{level_in, barred, direct, inside, entry, open_place}
-use Rattle.pur_wellform.specs.Closing.{losing, followed_by, is_blank, enter, enter_wrapper, put_text, text_step, without_newest, end_at, end_step}
+use Rattle.pur_text.specs.Characters.{is_blank}
+use Rattle.pur_wellform.specs.Closing.{losing, followed_by, enter, enter_wrapper, put_text, text_step, without_newest, end_at, end_step}
 use Rattle.pur_wellform.specs.Invariants.{Kept}
-use Rattle.pur_wellform.specs.Opens.{names_of}
-use Rattle.pur_wellform.specs.Machines.{pending_tag, state_of, IsMachine, Did}
+use Rattle.pur_wellform.specs.Private.Opens.{names_of}
+use Rattle.pur_wellform.specs.Private.Machines.{pending_tag, state_of, IsMachine, Did}
 use Rattle.pur_wellform.proofs.TableFacts.{both, wrapper_is_full}
 use Rattle.pur_laws.proofs.Truth.{or_true}
 use Rattle.pur_wellform.proofs.ListFacts.{nat_le_false}

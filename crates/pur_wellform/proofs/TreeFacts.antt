@@ -1,14 +1,13 @@
 -- Tokens each of which stands where it may: they may be put behind one another, their texts may be joined, and so stand
 -- the nodes of their tree.
 use Rattle.std.proofs.Common.{◌≡◌, ℕ, List, [], ◌∷◌, ◌++◌, ap, Bool, true, false, ◌||◌}
-use Rattle.pur_text.specs.Characters.{is_space}
+use Rattle.pur_text.specs.Characters.{is_space, is_blank}
 use Rattle.pur_names.specs.declared.elements.Element.{Element}
 use Rattle.pur_modules.specs.declared.kinds.Child.TheVariants.{Text}
 use Rattle.pur_settings.specs.Rules.{Rules}
 use Rattle.pur_tree.specs.Nodes.{Nodes}
 use Rattle.pur_tree.specs.Tokens.{Token, text_token, Levels, levels_of, first_level, other_levels, join_token, joined, tree_of}
 use Rattle.pur_wellform.specs.Search.{allows}
-use Rattle.pur_wellform.specs.Closing.{is_blank}
 use Rattle.pur_wellform.specs.Standing.{MayHold, Stands, nothing_stands, text_stands, element_stands}
 use Rattle.pur_wellform.specs.Invariants.{Writes, writes_nothing, writes_text, writes_empty, writes_start, writes_end}
 use Rattle.pur_laws.proofs.Truth.{or_true}

@@ -11,8 +11,8 @@ use Rattle.pur_wellform.specs.declared.machine.Machine.{Machine}
 use Rattle.pur_wellform.specs.declared.machine.Pending.{Pending}
 use Rattle.pur_wellform.specs.Closing.{State, Run, names, kept, is_formatting, both_runs, changed_to, enter, enter_again, cost, fits_again, turn_of, turns_of, reopen}
 use Rattle.pur_wellform.specs.Invariants.{Kept, is_pendable}
-use Rattle.pur_wellform.specs.Opens.{tags_of, names_of}
-use Rattle.pur_wellform.specs.Machines.{pending_tag, state_of, IsMachine, Did, first_turn, so_many_turns}
+use Rattle.pur_wellform.specs.Private.Opens.{tags_of, names_of}
+use Rattle.pur_wellform.specs.Private.Machines.{pending_tag, state_of, IsMachine, Did, first_turn, so_many_turns}
 use Rattle.pur_wellform.proofs.TableFacts.{left_of, right_of, neither_left, neither_right}
 use Rattle.pur_wellform.proofs.ListFacts.{nat_le_false}
 use Rattle.std.proofs.lemmas.List.{length-map}

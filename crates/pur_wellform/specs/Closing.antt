@@ -2,12 +2,12 @@
 -- formatting that is cut off by a block goes on in it (the second strategy of HTML Purifier).
 use Rattle.std.specs.Prelude.{ℕ, ◌+◌, ◌-◌, Bool, true, false, List, [], ◌∷◌, ◌++◌, map, filter, reverse, length, take, drop, Option, Some, None, if◌then◌else◌, not, ◌&&◌, ◌||◌, nat_le, suc}
 use Rattle.std.specs.List.{list_any, list_all}
-use Rattle.pur_text.specs.Characters.{is_space}
+use Rattle.pur_text.specs.Characters.{is_space, is_blank}
 use Rattle.pur_names.specs.Elements.{element_named, same_element}
 use Rattle.pur_names.specs.declared.elements.Element.{Element}
 use Rattle.pur_names.specs.declared.elements.Element.TheVariants.{B, Big, Code, Em, Font, I, S, Small, Strike, Strong, Tt, U}
 use Rattle.pur_modules.specs.declared.kinds.Child.TheVariants.{Text, Elem}
-use Rattle.pur_modules.specs.Contents.{is_empty_element}
+use Rattle.pur_modules.specs.Contents.{is_empty_element, is_excluded_in}
 use Rattle.pur_modules.specs.Groups.{is_among}
 use Rattle.pur_modules.specs.Wrappers.{is_running}
 use Rattle.pur_tokens.specs.Attributes.{weight_of}
@@ -16,7 +16,7 @@ use Rattle.pur_settings.specs.Rules.{Rules}
 use Rattle.pur_tree.specs.Nodes.{PlainElem, plain_elem, bare}
 use Rattle.pur_tree.specs.Places.{level_limit}
 use Rattle.pur_tree.specs.Tokens.{Token, text_token, start_token, end_token, opening_of, closing_of, joined}
-use Rattle.pur_wellform.specs.Search.{allows, is_excluded_in, level_in, Entry, barred, direct, inside, entry, wrapped, is_shut, Place, no_place, at_place, place_of, open_place}
+use Rattle.pur_wellform.specs.Search.{allows, level_in, Entry, barred, direct, inside, entry, wrapped, is_shut, Place, no_place, at_place, place_of, open_place}
 
 -- the open elements, innermost first; the formatting that waits to be opened again, oldest first; and the units that may
 -- still be paid for that
@@ -71,10 +71,6 @@ is_formatting element = is_among formatting element
 -- what is kept of an element while it is open: its name, and of formatting, which may be opened again, its attributes too
 abbrev pub kept : PlainElem → PlainElem
 kept tag = plain_elem tag.name (if is_formatting tag.name then tag.attrs else [])
-
--- white space alone
-abbrev pub is_blank : List ℕ → Bool
-is_blank text = list_all is_space text
 
 -- no more wait than so many
 abbrev pub pending_limit : ℕ

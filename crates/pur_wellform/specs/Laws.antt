@@ -6,13 +6,13 @@ use Rattle.pur_tokens.specs.Tokens as read
 use Rattle.pur_settings.specs.Rules.{Rules}
 use Rattle.pur_tree.specs.Nodes.{Nodes, is_sound, is_joined, level_of}
 use Rattle.pur_tree.specs.Places.{level_limit}
-use Rattle.pur_tree.specs.Properties.{Holds}
+use Rattle.pur_tree.specs.Properties.{Holds, permitted, letters, free}
 use Rattle.pur_tree.specs.Tokens.{Token, text_token, start_token, end_token, empty_token, tree_of, tokens_of_nodes, count_in_written, IsTreeOf}
 use Rattle.pur_tokens.specs.Joining.{count_in_text}
 use Rattle.pur_tokens.specs.Texts.{times}
 use Rattle.pur_wellform.specs.Closing.{closed, lost_in_closing, paid, steps, first_state, pending_limit, allowance}
 use Rattle.pur_tree.specs.Spelling.{is_spellable}
-use Rattle.pur_wellform.specs.Standing.{is_spellable_read, can_be_closed, permitted, letters, free, Stands}
+use Rattle.pur_wellform.specs.Standing.{is_spellable_read, can_be_closed, Stands}
 use Rattle.pur_wellform.specs.Invariants.{GoodRun}
 
 -- in the tree of what closing writes each node stands where it may
@@ -29,7 +29,7 @@ EveryPrefixIsGood = (rules : Rules) (tokens : List read.PlainToken) → list_all
 -- nodes that stand where they may are permitted, are letters or white space text, stand in none that excludes them, and no level
 -- passes the limit
 pub record IsClosed (rules : Rules) (nodes : Nodes) : Type 0 where
-  pub permitted : Holds (permitted rules) tt nodes
+  pub permitted : Holds (permitted (permits_element rules)) tt nodes
   pub letters : Holds (letters rules.doctype) (rules.parent) nodes
   pub free : Holds free [] nodes
   pub low : level_of nodes ≤ level_limit

@@ -5,5 +5,4 @@ pub mod Laws
 pub mod Invariants
 pub mod Rows
 pub mod Progress
-pub mod Opens
-pub mod Machines
+pub mod Private

@@ -24,10 +24,6 @@ content_in rules (element ∷ outer) = content_held rules.doctype element (conte
 abbrev pub allows : Rules → List Element → Child → Bool
 allows rules opened child = is_letter rules.doctype (content_in rules opened) child
 
--- whether an open element excludes an element, at any depth
-abbrev pub is_excluded_in : List Element → Element → Bool
-is_excluded_in opened element = list_any (λ outer. is_excluded outer element) opened
-
 -- where the children of the innermost element stand: at which level, and whether in a table
 abbrev pub standing_in : List Element → levels.Place
 standing_in [] = levels.fragment

@@ -4,9 +4,9 @@ use Rattle.pur_names.specs.declared.elements.Element.{Element}
 use Rattle.pur_modules.specs.declared.kinds.Child.TheVariants.{Text, Elem}
 use Rattle.pur_modules.specs.declared.kinds.Content.{Content}
 use Rattle.pur_modules.specs.declared.kinds.Doctype.{Doctype}
-use Rattle.pur_modules.specs.Contents.{content_held}
+use Rattle.pur_modules.specs.Contents.{content_held, is_excluded_in}
 use Rattle.pur_modules.specs.Expressions.{is_letter}
-use Rattle.pur_text.specs.Characters.{is_allowed}
+use Rattle.pur_text.specs.Characters.{is_allowed, is_blank}
 use Rattle.pur_tokens.specs.Tokens.{PlainToken, shows_only, text_token, start_token, empty_token}
 use Rattle.pur_settings.specs.Rules.{Rules, permits_element, permits_name}
 use Rattle.pur_tree.specs.Nodes.{PlainElem, Nodes, no_nodes, text_first, elem_first}
@@ -14,9 +14,7 @@ use Rattle.pur_tree.specs.Places.{level_limit}
 use Rattle.pur_tree.specs.Spelling.{are_spellable}
 use Rattle.pur_tree.specs.Tokens as written
 use Rattle.std.specs.List.{list_all}
-use Rattle.pur_tree.specs.Properties.{Property}
-use Rattle.pur_wellform.specs.Search.{allows, is_excluded_in, level_in}
-use Rattle.pur_wellform.specs.Closing.{is_blank}
+use Rattle.pur_wellform.specs.Search.{allows, level_in}
 
 -- whether a token may be closed: each tag names a permitted element, no text is empty, and hidden content and comments are gone
 abbrev pub can_be_closed : Rules → PlainToken → Bool
@@ -39,33 +37,6 @@ is_spellable_written (written.text_token text) = list_all is_allowed text
 is_spellable_written (written.start_token element) = is_spellable_tag element
 is_spellable_written (written.empty_token element) = is_spellable_tag element
 is_spellable_written (written.end_token name) = true
-
--- all elements are permitted
-abbrev pub permitted : Rules → Property
-permitted rules = record {
-  Where = Unit {0};
-  text = λ at text. Unit {0};
-  elem = λ at element. permits_element rules element.name ≡ true;
-  inside = λ at name. at;
-}
-
--- each child is a letter of its parent's content, or white space text
-abbrev pub letters : Doctype → Property
-letters doctype = record {
-  Where = Content;
-  text = λ content text. (is_blank text || is_letter doctype content Text) ≡ true;
-  elem = λ content element. is_letter doctype content (Elem element.name) ≡ true;
-  inside = λ content name. content_held doctype name content;
-}
-
--- no element stands in one that excludes it, at any depth; where is told by the elements round a node, innermost first
-abbrev pub free : Property
-free = record {
-  Where = List Element;
-  text = λ outer text. Unit {0};
-  elem = λ outer element. is_excluded_in outer element.name ≡ false;
-  inside = λ outer name. name ∷ outer;
-}
 
 -- an element may stand directly inside of open ones, which are given innermost first: it is permitted, a letter of the content
 -- there, excluded by none of them, and its level is within the limit

@@ -7,15 +7,15 @@ ghost use Rattle.pur_tree.specs.Forests.{IsForest};
 ghost use Rattle.pur_tree.specs.Image.{nodes_of};
 ghost use Rattle.pur_tree.specs.Nodes.{is_joined, level_of};
 ghost use Rattle.pur_tree.specs.Places.{level_limit};
-ghost use Rattle.pur_tree.specs.Properties.{Holds};
+ghost use Rattle.pur_tree.specs.Properties.{Holds, permitted, letters, free};
 ghost use Rattle.pur_tree.specs.Tokens.{IsTreeOf};
 ghost use Rattle.pur_tokens.specs.Joining as reading;
 ghost use Rattle.pur_tokens.specs.Texts.{times};
 ghost use Rattle.pur_tree.specs.Walks.{count_in_text};
 ghost use Rattle.pur_wellform.specs.Closing.{closed, lost_in_closing, paid, steps, first_state, pending_limit, allowance};
-ghost use Rattle.pur_wellform.specs.Standing.{can_be_closed, permitted, letters, free};
+ghost use Rattle.pur_wellform.specs.Standing.{can_be_closed};
 ghost use Rattle.pur_wellform.specs.Progress.{closed_behind, before_all};
-ghost use Rattle.pur_wellform.specs.Machines.{IsFirst};
+ghost use Rattle.pur_wellform.specs.Private.Machines.{IsFirst};
 
 use crate::machine::Machine;
 use crate::steps::put_token;
@@ -45,7 +45,7 @@ pub fn make_wellformed(
 ) -> Result<Forest, AllocError>
     requires { list_all (can_be_closed settings.now) (map plain_token tokens.items) ≡ true }
     ensures tree { IfOk result (λ forest. IsTreeOf (nodes_of forest) (closed settings.now (map plain_token tokens.items))) }
-    ensures permitted { IfOk result (λ forest. Holds (permitted settings.now) tt (nodes_of forest)) }
+    ensures permitted { IfOk result (λ forest. Holds (permitted (permits_element settings.now)) tt (nodes_of forest)) }
     ensures letters { IfOk result (λ forest. Holds (letters settings.now.doctype) (settings.now.parent) (nodes_of forest)) }
     ensures free { IfOk result (λ forest. Holds free [] (nodes_of forest)) }
     ensures low { IfOk result (λ forest. level_of (nodes_of forest) ≤ level_limit) }
@@ -84,7 +84,7 @@ pub struct Closing<'a> {
 
 impl<'a> Model for Closing<'a> {
     ghost use Rattle.pur_wellform.specs.Progress.{Progress};
-    ghost use Rattle.pur_wellform.specs.Machines.{progress_of, IsClosing};
+    ghost use Rattle.pur_wellform.specs.Private.Machines.{progress_of, IsClosing};
 
     ghost Value = { Progress };
 

@@ -8,8 +8,8 @@ ghost use Rattle.pur_tree.specs.Places.{level_limit};
 ghost use Rattle.pur_tree.specs.Tokens.{text_token};
 ghost use Rattle.pur_wellform.specs.Search.{level_in, is_shut};
 ghost use Rattle.pur_wellform.specs.Closing.{is_formatting, kept, close_inner, enter, enter_and_close, enter_tag, writing};
-ghost use Rattle.pur_wellform.specs.Opens.{names_of, tag_of};
-ghost use Rattle.pur_wellform.specs.Machines.{IsMachine, Did, state_of, leaving, waiting, carrying_out, settled};
+ghost use Rattle.pur_wellform.specs.Private.Opens.{names_of, tag_of};
+ghost use Rattle.pur_wellform.specs.Private.Machines.{IsMachine, Did, state_of, leaving, waiting, carrying_out, settled};
 
 use crate::open_elements::{Open, opening};
 use crate::search::is_shut;

@@ -3,10 +3,10 @@ ghost use Rattle.std.specs.Prelude.{◌≡◌, ◌≤◌, ◌∷◌, [], false, 
 ghost use Rattle.std.specs.List.{list_any};
 ghost use Rattle.pur_names.specs.Elements.{same_element};
 ghost use Rattle.pur_names.specs.declared.elements.Element.TheVariants.{A, Pre};
-ghost use Rattle.pur_modules.specs.Contents.{is_empty_element, is_excluded};
+ghost use Rattle.pur_modules.specs.Contents.{is_empty_element, is_excluded, is_excluded_in};
 ghost use Rattle.pur_tree.specs.Places.{level_limit};
-ghost use Rattle.pur_wellform.specs.Search.{content_in, level_in, is_excluded_in};
-ghost use Rattle.pur_wellform.specs.Opens.{names_of, AreOpen, IsOpen};
+ghost use Rattle.pur_wellform.specs.Search.{content_in, level_in};
+ghost use Rattle.pur_wellform.specs.Private.Opens.{names_of, AreOpen, IsOpen};
 
 use pur_modules::{Content, content_of, excludes};
 use pur_names::Element;

@@ -7,8 +7,8 @@ ghost use Rattle.pur_tokens.specs.Attributes.{weight_of};
 ghost use Rattle.pur_tree.specs.Places.{level_limit};
 ghost use Rattle.pur_wellform.specs.Closing.{fits_again, turn_of, reopen, reopen_before};
 ghost use Rattle.pur_wellform.specs.Invariants.{Kept, is_pendable};
-ghost use Rattle.pur_wellform.specs.Opens.{names_of};
-ghost use Rattle.pur_wellform.specs.Machines.{IsMachine, Did, state_of, pending_tag, first_turn, so_many_turns};
+ghost use Rattle.pur_wellform.specs.Private.Opens.{names_of};
+ghost use Rattle.pur_wellform.specs.Private.Machines.{IsMachine, Did, state_of, pending_tag, first_turn, so_many_turns};
 
 use crate::machine::{Machine, Pending, enter};
 use crate::open_elements::{content_at, is_excluded_at, level_inside};

@@ -1,7 +1,7 @@
 // The search for the place of an element, from the innermost open element outwards.
 ghost use Rattle.std.specs.Prelude.{◌≡◌, ◌≤◌, ◌<◌, length, IfSome, IsTrue};
 ghost use Rattle.pur_wellform.specs.Search.{entry, ends_search, is_shut, is_table_part, place_of, open_place};
-ghost use Rattle.pur_wellform.specs.Opens.{names_of, AreOpen, entry_of, found_place, is_open_way};
+ghost use Rattle.pur_wellform.specs.Private.Opens.{names_of, AreOpen, entry_of, found_place, is_open_way};
 
 use crate::open_elements::{Open, content_at};
 use pur_modules::{Child, allows, implied};

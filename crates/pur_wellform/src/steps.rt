@@ -2,18 +2,19 @@
 ghost use Rattle.std.specs.Prelude.{◌≡◌, ◌≤◌, ◌<◌, ◌-◌, ◌∷◌, true, false, length, take, map, string_bytes, Some, OnOk};
 ghost use Rattle.std.specs.Str.{chars};
 ghost use Rattle.pur_names.specs.Elements.{element_named};
-ghost use Rattle.pur_modules.specs.Contents.{is_empty_element};
+ghost use Rattle.pur_modules.specs.Contents.{is_empty_element, is_excluded_in};
 ghost use Rattle.pur_settings.specs.Rules.{permits_element};
 ghost use Rattle.pur_tokens.specs.Texts.{text_of};
 ghost use Rattle.pur_tokens.specs.Tokens.{plain_token};
 ghost use Rattle.pur_tree.specs.Nodes.{bare, plain_elem};
-ghost use Rattle.pur_wellform.specs.Search.{level_in, is_excluded_in, place_of, wrapped};
-ghost use Rattle.pur_wellform.specs.Closing.{enter, enter_wrapper, put_at, start_step, put_text, text_step, is_blank, end_step, without_newest, for_element, step};
+ghost use Rattle.pur_wellform.specs.Search.{level_in, place_of, wrapped};
+ghost use Rattle.pur_text.specs.Characters.{is_blank};
+ghost use Rattle.pur_wellform.specs.Closing.{enter, enter_wrapper, put_at, start_step, put_text, text_step, end_step, without_newest, for_element, step};
 ghost use Rattle.pur_wellform.specs.Standing.{can_be_closed};
 ghost use Rattle.pur_settings.specs.Rules.{permits_name};
 ghost use Rattle.pur_wellform.specs.Invariants.{Kept};
-ghost use Rattle.pur_wellform.specs.Opens.{names_of, AreOpen, entry_of, found_place};
-ghost use Rattle.pur_wellform.specs.Machines.{IsMachine, Did, state_of, pending_tag, CanWrap};
+ghost use Rattle.pur_wellform.specs.Private.Opens.{names_of, AreOpen, entry_of, found_place};
+ghost use Rattle.pur_wellform.specs.Private.Machines.{IsMachine, Did, state_of, pending_tag, CanWrap};
 
 use crate::machine::{Machine, Pending, close_inner, close_to, enter, enter_tag, write_text};
 use crate::open_elements::{Open, is_excluded_at, level_inside};

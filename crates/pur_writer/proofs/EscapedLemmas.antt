@@ -9,7 +9,7 @@ use Rattle.std.proofs.lemmas.Grind.{flat_map-append}
 use Rattle.std.proofs.lemmas.Str.{encodes-append, inside_one}
 use Rattle.pur_laws.proofs.Places.{none_at_all}
 use Rattle.pur_text.specs.Escapes.{escape, escaped}
-use Rattle.pur_writer.specs.Bytes.{is_special, is_plain}
+use Rattle.pur_writer.specs.Private.Bytes.{is_special, is_plain}
 
 pub escaped-append : (xs ys : List ℕ) → escaped (xs ++ ys) ≡ escaped xs ++ escaped ys
 unfolding escaped

@@ -4,7 +4,7 @@ ghost use Rattle.std.specs.Prelude.{◌≡◌, ◌++◌, ◌∷◌, IfSome, IfNo
 ghost use Rattle.std.specs.List.{list_all};
 ghost use Rattle.std.specs.Str.{chars};
 ghost use Rattle.pur_tree.specs.Spelling.{attribute_text, attributes_text, escaped_value};
-ghost use Rattle.pur_writer.specs.Bytes.{is_no_quote};
+ghost use Rattle.pur_writer.specs.Private.Bytes.{is_no_quote};
 
 use crate::escaping::push_escaped;
 use memchr::memchr;

@@ -3,7 +3,7 @@
 ghost use Rattle.std.specs.Prelude.{◌≡◌, ◌++◌, ◌∷◌, IfSome, IfNone, IsTrue, OnOk};
 ghost use Rattle.std.specs.List.{list_all};
 ghost use Rattle.pur_text.specs.Escapes.{escape, escaped};
-ghost use Rattle.pur_writer.specs.Bytes.{is_special, is_plain};
+ghost use Rattle.pur_writer.specs.Private.Bytes.{is_special, is_plain};
 
 use memchr::memchr3;
 use std::alloc::AllocError;

@@ -3,7 +3,7 @@ use Rattle.std.specs.Str.{chars}
 use denote.Text.{Utf8}
 use denote.Shadow.{shadow}
 use Rattle.pur_csstok.specs.Families.{families_kept}
-use Rattle.pur_csstok.specs.Written.{text_of}
+use Rattle.pur_text.specs.Texts.{text_of}
 use Rattle.pur_csstok.proofs.families.families_kept.Given as goal
 
 -- what was read, and what is still to be read, are the whole

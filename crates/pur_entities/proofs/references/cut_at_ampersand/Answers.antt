@@ -2,7 +2,7 @@ use Rattle.std.proofs.Common.{◌≡◌, ◌∙◌, true, take, drop, suc, ap, s
 use Rattle.memchr.specs.Find.{is_byte}
 use Rattle.std.specs.List.{list_all}
 use Rattle.std.proofs.lemmas.Str.Pattern.{strip_prefix_char}
-use Rattle.pur_entities.specs.Cuts.{is_plain}
+use Rattle.pur_entities.specs.Private.Cuts.{is_plain}
 use Rattle.pur_laws.proofs.Options.{if_none}
 use Rattle.pur_laws.proofs.Places.{begins_at, none_at_all, none_before}
 use Rattle.pur_entities.proofs.references.cut_at_ampersand.Goals as goal

@@ -6,7 +6,7 @@ use Rattle.std.proofs.lemmas.Bool.{or_cases, eqb-true}
 use Rattle.std.proofs.lemmas.Str.{IsUtf8-take, IsUtf8-drop, IsCharBoundary-before_ascii, IsCharBoundary-after_ascii}
 use Rattle.std.specs.Str.{IsUtf8, IsCharBoundary}
 use Rattle.std.proofs.lemmas.Str.Pattern.{strip_prefix_char}
-use Rattle.pur_entities.specs.Cuts.{is_inside, IsCutOff}
+use Rattle.pur_entities.specs.Private.Cuts.{is_inside, IsCutOff}
 use Rattle.pur_laws.proofs.Options.{if_none}
 use Rattle.pur_laws.proofs.Places.{begins_at, cut_at, none_at_all, none_before}
 use Rattle.pur_entities.proofs.references.cut_body.Goals as goal

@@ -4,7 +4,7 @@ use denote.Text.{Utf8}
 use denote.Shadow.{shadow}
 use Rattle.std.specs.Str.{chars}
 use Rattle.pur_lexer.specs.Tags.{tag_end_behind, tag_end}
-use Rattle.pur_lexer.specs.Readings.{tag_end_after}
+use Rattle.pur_lexer.specs.Private.Readings.{tag_end_after}
 use Rattle.pur_lexer.proofs.attributes.cut_tag_end.Given as goal
 
 abbrev pub invariant-attributes : goal.invariant-attributes

@@ -5,7 +5,7 @@ use Rattle.std.specs.Str.{chars}
 use Rattle.std.proofs.lemmas.Bool.{eqb-true}
 use Rattle.pur_tokens.specs.Texts.{text_of}
 use Rattle.pur_lexer.specs.Tags.{ReadAttributes}
-use Rattle.pur_lexer.specs.Readings.{with_all_new}
+use Rattle.pur_lexer.specs.Private.Readings.{with_all_new}
 use Rattle.pur_lexer.proofs.TagLemmas.{attribute_at-none, none_new, named_here}
 use Rattle.pur_lexer.proofs.attributes.push_attribute.Goals as goal
 

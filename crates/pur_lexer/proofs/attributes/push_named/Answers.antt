@@ -6,7 +6,7 @@ use Rattle.pur_tokens.specs.Texts.{text_of}
 use Rattle.pur_tokens.specs.Attributes.{with_new}
 use Rattle.pur_entities.specs.References.{decoded}
 use Rattle.pur_lexer.specs.Tags.{ReadAttributes, raw_value, with_raw_value, attribute_behind}
-use Rattle.pur_lexer.specs.Readings.{with_all_new}
+use Rattle.pur_lexer.specs.Private.Readings.{with_all_new}
 use Rattle.pur_lexer.proofs.TagLemmas.{chars_behind, not_behind, attribute_behind-value, attribute_behind-none, one_new}
 use Rattle.pur_lexer.proofs.attributes.push_named.Goals as goal
 

@@ -5,7 +5,7 @@ use Rattle.pur_tokens.specs.Texts.{text_of}
 use Rattle.pur_lexer.proofs.ConstructLemmas.{hiding_mark, hiding_same, hidden-read}
 use Rattle.pur_lexer.proofs.constructs.cut_hidden.Goals as goal
 use Rattle.std.proofs.Common.{subst}
-use Rattle.pur_lexer.specs.Cutting.{IsMark}
+use Rattle.pur_lexer.specs.Private.Cutting.{IsMark}
 
 pub cut_at_end_mark-requires : goal.cut_at_end_mark-requires
 cut_at_end_mark-requires c = subst IsMark (sym c.as_str.ensures.value) (hiding_mark (string_bytes c.args.name) (IsUtf8-string_bytes c.args.name) c.requires)

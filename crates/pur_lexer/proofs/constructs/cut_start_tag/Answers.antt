@@ -4,7 +4,7 @@ use Rattle.std.specs.Str.{chars}
 use Rattle.pur_tokens.specs.Texts.{text_of}
 use Rattle.pur_lexer.specs.Tags.{tag_end}
 use Rattle.pur_lexer.specs.Constructs.{is_hiding}
-use Rattle.pur_lexer.specs.Readings.{tag_end_with}
+use Rattle.pur_lexer.specs.Private.Readings.{tag_end_with}
 use Rattle.pur_lexer.proofs.ConstructLemmas.{nothing_left, tag-found, by-empty, by-hiding, by-start}
 use Rattle.pur_lexer.proofs.constructs.cut_start_tag.Goals as goal
 

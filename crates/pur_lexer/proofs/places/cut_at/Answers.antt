@@ -1,9 +1,9 @@
 -- Both parts are what the test cuts.
 use Rattle.std.proofs.Common.{◌∙◌, ap, subst}
 use Rattle.std.specs.Str.{chars}
-use Rattle.pur_lexer.specs.Cutting.{IsFirstPlace}
+use Rattle.pur_lexer.specs.Private.Cutting.{IsFirstPlace}
 use Rattle.pur_lexer.specs.Places.{begins_with}
-use Rattle.pur_lexer.specs.Cutting.{stops_at}
+use Rattle.pur_lexer.specs.Private.Cutting.{stops_at}
 use Rattle.pur_lexer.proofs.PlaceLemmas.{cut_there, stop_is_plain}
 use Rattle.pur_lexer.proofs.places.cut_at.Goals as goal
 

@@ -1,7 +1,7 @@
 -- Both parts are what the test cuts.
 use Rattle.std.proofs.Common.{◌∙◌, ap, subst}
 use Rattle.std.specs.Str.{chars}
-use Rattle.pur_lexer.specs.Cutting.{IsFirstPlace}
+use Rattle.pur_lexer.specs.Private.Cutting.{IsFirstPlace}
 use Rattle.pur_lexer.specs.Places.{begins_with, is_character}
 use Rattle.pur_lexer.proofs.PlaceLemmas.{cut_there, character_is_plain}
 use Rattle.pur_lexer.proofs.places.cut_at_character.Goals as goal

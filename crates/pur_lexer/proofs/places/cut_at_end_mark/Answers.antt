@@ -1,7 +1,7 @@
 -- Both parts are what the test cuts.
 use Rattle.std.proofs.Common.{◌∙◌, ap, subst}
 use Rattle.std.specs.Str.{chars}
-use Rattle.pur_lexer.specs.Cutting.{IsFirstPlace}
+use Rattle.pur_lexer.specs.Private.Cutting.{IsFirstPlace}
 use Rattle.pur_lexer.specs.Constructs.{is_end_mark}
 use Rattle.pur_lexer.proofs.PlaceLemmas.{cut_there, end_mark_is_plain}
 use Rattle.pur_lexer.proofs.places.cut_at_end_mark.Goals as goal

@@ -1,5 +1,5 @@
 use Rattle.std.proofs.Common.{◌∙◌, sym, arith}
-use Rattle.pur_lexer.specs.Cutting.{stops_at}
+use Rattle.pur_lexer.specs.Private.Cutting.{stops_at}
 use Rattle.pur_lexer.proofs.PlaceLemmas.{first_byte}
 use Rattle.pur_lexer.proofs.places.place_of_stop.Goals as goal
 

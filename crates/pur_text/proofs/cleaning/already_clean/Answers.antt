@@ -1,7 +1,7 @@
 use Rattle.std.proofs.Common.{◌∙◌, ap, sym}
 use Rattle.std.specs.List.{position}
 use Rattle.std.specs.Str.{chars}
-use Rattle.pur_text.specs.Runs.{needs_care}
+use Rattle.pur_text.specs.Private.Runs.{needs_care}
 use Rattle.pur_text.proofs.CleaningLemmas.{cleaned_text}
 use Rattle.pur_text.proofs.RunLemmas.{run_whole, run_allowed}
 use Rattle.pur_text.proofs.cleaning.already_clean.Goals as goal

@@ -1,7 +1,7 @@
 use Rattle.std.proofs.Common.{◌++◌, ◌∙◌, ap, sym, take, take-append-drop, string_bytes, IsUtf8}
 use Rattle.std.specs.List.{position}
 use Rattle.std.proofs.lemmas.Str.{IsUtf8-take, IsUtf8-string_bytes}
-use Rattle.pur_text.specs.Runs.{needs_care}
+use Rattle.pur_text.specs.Private.Runs.{needs_care}
 use Rattle.pur_text.proofs.CleaningLemmas.{nothing_copied, run_copied, all_copied}
 use Rattle.pur_text.proofs.RunLemmas.{run_ended, run_whole, run_allowed}
 use Rattle.pur_text.proofs.cleaning.clean_text.Goals as goal

@@ -3,7 +3,7 @@ use Rattle.std.proofs.Common.{get_or, refl, arith}
 use Rattle.std.specs.Prelude.{◌==◌}
 use Rattle.std.proofs.lemmas.Bool.{agree_below_at}
 use Rattle.pur_text.specs.declared.runs.TheConstants.{CARE}
-use Rattle.pur_text.specs.Runs.{needs_care}
+use Rattle.pur_text.specs.Private.Runs.{needs_care}
 use Rattle.pur_text.proofs.runs.needs_care.Goals as goal
 
 pub returns : goal.returns

@@ -2,7 +2,7 @@ use Rattle.std.proofs.Common.{rules}
 use Rattle.std.proofs.lemmas.Iterator.{YieldsList-from_slice}
 use Rattle.std.proofs.lemmas.Iterator.Search.{position_from_yields_List}
 use borrow.Author.Tests.{tests}
-use Rattle.pur_text.specs.Runs.{needs_care}
+use Rattle.pur_text.specs.Private.Runs.{needs_care}
 use Rattle.pur_text.proofs.runs.run_end.Goals as goal
 
 pub returns : goal.returns

@@ -4,7 +4,7 @@ use Rattle.std.specs.Cmp.Lexicographic.{slice_cmp}
 use Rattle.std.specs.Map.{lookup}
 use Rattle.std.specs.declared.alloc.Global.{Global}
 use Rattle.std.proofs.lemmas.Map.Made.{map_same_pairs, lookup-map_values}
-use Rattle.pur_tokens.specs.Places.{moved_down}
+use Rattle.pur_tokens.specs.Private.Places.{moved_down}
 use Rattle.pur_tokens.proofs.indexed_pairs.move_down.Goals as goal
 
 pub returns : goal.returns

@@ -4,7 +4,7 @@ use Rattle.pur_tree.specs.Image.{nodes_of, node_before}
 use Rattle.pur_tree.specs.Nodes.{no_nodes, elem_first, plain_elem, nodes_append}
 use Rattle.pur_tree.proofs.NodesLemmas.{nodes_append-none}
 use Rattle.pur_tree.proofs.NodeLemmas.{before_text, before_elem}
-use Rattle.pur_tree.specs.Joining.{joining}
+use Rattle.pur_tree.specs.Private.Joining.{joining}
 use Rattle.pur_tree.specs.Walks.{joined_nodes}
 use Rattle.pur_tree.proofs.PushLemmas.{none_left}
 use Rattle.pur_tree.proofs.joining.+join_nodes.Goals as goal

@@ -1,7 +1,7 @@
 use Rattle.std.proofs.Common.{◌≡◌}
 use Rattle.std.specs.Vec.Iter.{into_iter_items}
 use Rattle.pur_tree.specs.Image.{nodes_of}
-use Rattle.pur_tree.specs.Joining.{joining}
+use Rattle.pur_tree.specs.Private.Joining.{joining}
 use Rattle.pur_tree.specs.Walks.{joined_nodes}
 use Rattle.pur_tree.proofs.joining.+join_nodes.Given as goal
 

@@ -1,6 +1,6 @@
 use Rattle.std.proofs.Common.{◌∙◌, ap, sym}
 use Rattle.pur_laws.proofs.Cases.{test-chars}
-use Rattle.pur_values.specs.Seen.{passes}
+use Rattle.pur_values.specs.Private.Seen.{passes}
 use Rattle.pur_values.proofs.SolidLemmas.{token-ascii}
 use Rattle.pur_values.proofs.tokens.is_token.Goals as goal
 

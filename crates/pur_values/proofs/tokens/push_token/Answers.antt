@@ -2,8 +2,8 @@ use Rattle.std.proofs.Common.{◌≡◌, ◌∙◌, true, false, ap, sym, rules}
 use Rattle.std.specs.Prelude.{if◌then◌else◌}
 use Rattle.std.specs.Str.{chars, bytes_eq}
 use Rattle.pur_laws.proofs.Texts.{same_chars}
-use Rattle.pur_values.specs.Seen.{passes, has}
-use Rattle.pur_values.specs.Words.{text_of}
+use Rattle.pur_values.specs.Private.Seen.{passes, has}
+use Rattle.pur_text.specs.Texts.{text_of}
 use Rattle.pur_values.proofs.SeenLemmas.{repeated, written_now, not_false, not_true}
 use Rattle.pur_values.proofs.SolidLemmas.{token-ascii}
 use Rattle.pur_values.proofs.tokens.push_token.Goals as goal

@@ -1,9 +1,9 @@
 use Rattle.std.proofs.Common.{◌≡◌, ◌∙◌, ℕ, List, [], false, sym, ap, filter, rules}
 use Rattle.std.proofs.lemmas.Str.{chars-nil}
 use Rattle.std.specs.Str.{chars}
-use Rattle.pur_values.specs.Seen.{fresh, has, passes, put_all}
+use Rattle.pur_values.specs.Private.Seen.{fresh, has, passes, put_all}
 use Rattle.pur_values.specs.Tokens.{pieces}
-use Rattle.pur_values.specs.Words.{text_of}
+use Rattle.pur_text.specs.Texts.{text_of}
 use Rattle.pur_values.proofs.SeenLemmas.{fresh_same}
 use Rattle.pur_values.proofs.TokenLemmas.{walked, walk_is, walk_ends, some_text}
 use Rattle.pur_values.proofs.tokens.read_tokens.Goals as goal

@@ -2,9 +2,9 @@ use Rattle.std.proofs.Common.{◌≡◌, [], length, filter, false}
 use denote.Text.{Utf8}
 use denote.Shadow.{shadow}
 use Rattle.std.specs.Str.{chars}
-use Rattle.pur_values.specs.Words.{text_of}
+use Rattle.pur_text.specs.Texts.{text_of}
 use Rattle.pur_values.specs.Tokens.{pieces}
-use Rattle.pur_values.specs.Seen.{fresh, has, passes, put_all}
+use Rattle.pur_values.specs.Private.Seen.{fresh, has, passes, put_all}
 use Rattle.pur_values.proofs.tokens.read_tokens.Given as goal
 
 -- what was written, and then the tokens that are left, is what all tokens give

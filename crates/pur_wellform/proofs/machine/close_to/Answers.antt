@@ -2,8 +2,8 @@ use Rattle.std.proofs.Common.{arith, refl, take, ap, ◌∙◌, ℕ, add-one}
 use Rattle.std.specs.List.{list_any}
 use Rattle.pur_tree.specs.Nodes.{PlainElem}
 use Rattle.pur_wellform.specs.Search.{is_shut}
-use Rattle.pur_wellform.specs.Opens.{tags_of}
-use Rattle.pur_wellform.specs.Machines.{carrying_out, state_of}
+use Rattle.pur_wellform.specs.Private.Opens.{tags_of}
+use Rattle.pur_wellform.specs.Private.Machines.{carrying_out, state_of}
 use Rattle.pur_wellform.proofs.MachineFacts.{asked, did-close_to, left_open}
 use Rattle.pur_wellform.proofs.machine.close_to.Goals as goal
 

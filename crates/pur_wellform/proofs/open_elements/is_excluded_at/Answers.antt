@@ -1,5 +1,5 @@
 use Rattle.std.proofs.Common.{sym}
-use Rattle.pur_wellform.specs.Opens.{names_of}
+use Rattle.pur_wellform.specs.Private.Opens.{names_of}
 use Rattle.pur_wellform.proofs.OpenFacts.{innermost, excluded_by_two}
 use Rattle.pur_wellform.proofs.open_elements.is_excluded_at.Goals as goal
 

@@ -2,7 +2,7 @@ use Rattle.std.proofs.Common.{sym, ◌∙◌, ◌||◌, ap}
 use Rattle.std.specs.List.{list_any}
 use Rattle.pur_names.specs.Elements.{same_element}
 use Rattle.pur_names.specs.declared.elements.Element.TheVariants.{A}
-use Rattle.pur_wellform.specs.Opens.{names_of}
+use Rattle.pur_wellform.specs.Private.Opens.{names_of}
 use Rattle.pur_wellform.proofs.OpenFacts.{innermost}
 use Rattle.pur_wellform.proofs.open_elements.is_link_open.Goals as goal
 

@@ -3,7 +3,7 @@ use Rattle.pur_names.specs.Elements.{same_element}
 use Rattle.pur_names.specs.declared.elements.Element.{Element}
 use Rattle.pur_names.specs.declared.elements.Element.TheVariants.{Table, Tr}
 use Rattle.pur_tree.specs.Places as levels
-use Rattle.pur_wellform.specs.Opens.{names_of}
+use Rattle.pur_wellform.specs.Private.Opens.{names_of}
 use Rattle.pur_wellform.specs.Search.{standing_in}
 use Rattle.pur_wellform.proofs.OpenFacts.{innermost}
 use Rattle.pur_wellform.proofs.open_elements.level_inside.Goals as goal

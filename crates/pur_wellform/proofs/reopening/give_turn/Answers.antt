@@ -1,8 +1,8 @@
 use Rattle.std.proofs.Common.{refl, sym, ◌∙◌}
 use Rattle.pur_settings.specs.Rules.{permits_element}
 use Rattle.pur_wellform.specs.Closing.{is_formatting}
-use Rattle.pur_wellform.specs.Opens.{names_of}
-use Rattle.pur_wellform.specs.Machines.{pending_tag}
+use Rattle.pur_wellform.specs.Private.Opens.{names_of}
+use Rattle.pur_wellform.specs.Private.Machines.{pending_tag}
 use Rattle.pur_wellform.proofs.TableFacts.{right_of, formatting_is_full}
 use Rattle.pur_wellform.proofs.RunFacts.{may_open_again}
 use Rattle.pur_wellform.proofs.TurnFacts.{did-stays}

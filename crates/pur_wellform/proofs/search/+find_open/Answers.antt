@@ -1,5 +1,5 @@
 use Rattle.std.proofs.Common.{ap, sym, ◌∙◌, Some, ℕ, add-one}
-use Rattle.pur_wellform.specs.Opens.{names_of}
+use Rattle.pur_wellform.specs.Private.Opens.{names_of}
 use Rattle.pur_wellform.specs.Search.{open_place, count_further}
 use Rattle.pur_wellform.proofs.OpenFacts.{names_of-more}
 use Rattle.pur_wellform.proofs.SearchFacts.{open_here, open_stopped, open_further}

@@ -3,7 +3,7 @@ use Rattle.std.proofs.lemmas.List.{nil_from_length}
 use Rattle.pur_names.specs.declared.elements.Element.{Element}
 use Rattle.pur_modules.specs.declared.kinds.Child.TheVariants.{Elem}
 use Rattle.pur_settings.specs.Rules.{Rules}
-use Rattle.pur_wellform.specs.Opens.{names_of, entry_of, is_open_way}
+use Rattle.pur_wellform.specs.Private.Opens.{names_of, entry_of, is_open_way}
 use Rattle.pur_wellform.specs.Search.{Entry, entry, at_place, no_place, place_of, one_further, ends_search}
 use Rattle.pur_wellform.proofs.OpenFacts.{innermost}
 use Rattle.pur_wellform.proofs.SearchFacts.{found_here, found_nowhere, stopped_here, found_further}

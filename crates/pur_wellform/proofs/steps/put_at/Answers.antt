@@ -1,7 +1,7 @@
 use Rattle.std.proofs.Common.{◌-◌, length}
 use Rattle.pur_tree.specs.Nodes.{plain_elem}
-use Rattle.pur_wellform.specs.Opens.{entry_of}
-use Rattle.pur_wellform.specs.Machines.{state_of}
+use Rattle.pur_wellform.specs.Private.Opens.{entry_of}
+use Rattle.pur_wellform.specs.Private.Machines.{state_of}
 use Rattle.pur_wellform.proofs.StartFacts.{open_take, level_now, walk, did-too_deep, did-put_at, wraps_now, kept_now, low_now, too_deep, fits_there}
 use Rattle.pur_wellform.proofs.steps.put_at.Goals as goal
 

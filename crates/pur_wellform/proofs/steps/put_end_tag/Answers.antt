@@ -3,7 +3,7 @@ use Rattle.std.specs.Str.{chars}
 use Rattle.pur_names.specs.Elements.{element_named}
 use Rattle.pur_tokens.specs.Texts.{text_of}
 use Rattle.pur_wellform.specs.Closing.{for_element, end_step}
-use Rattle.pur_wellform.specs.Machines.{state_of, Did}
+use Rattle.pur_wellform.specs.Private.Machines.{state_of, Did}
 use Rattle.pur_modules.proofs.NameLaws.{element_named-chars}
 use Rattle.pur_wellform.proofs.MachineFacts.{did-nothing}
 use Rattle.pur_wellform.proofs.steps.put_end_tag.Goals as goal

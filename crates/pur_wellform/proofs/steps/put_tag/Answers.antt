@@ -5,7 +5,7 @@ use Rattle.pur_tokens.specs.Texts.{text_of}
 use Rattle.pur_tree.specs.Nodes.{plain_elem}
 use Rattle.pur_wellform.specs.Closing.{for_element, start_step}
 use Rattle.pur_settings.specs.Rules.{permits_found}
-use Rattle.pur_wellform.specs.Machines.{state_of, Did}
+use Rattle.pur_wellform.specs.Private.Machines.{state_of, Did}
 use Rattle.pur_modules.proofs.NameLaws.{element_named-chars}
 use Rattle.pur_wellform.proofs.MachineFacts.{did-nothing}
 use Rattle.pur_wellform.proofs.steps.put_tag.Goals as goal

@@ -1,4 +1,4 @@
-use Rattle.pur_wellform.specs.Opens.{names_of}
+use Rattle.pur_wellform.specs.Private.Opens.{names_of}
 use Rattle.pur_wellform.proofs.TextFacts.{text_wrapper_full, kept_wrapped}
 use Rattle.pur_wellform.proofs.steps.put_text.Goals as goal
 

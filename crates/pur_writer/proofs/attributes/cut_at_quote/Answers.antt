@@ -1,7 +1,7 @@
 use Rattle.std.proofs.Common.{◌≡◌, true, sym, subst}
 use Rattle.std.specs.Prelude.{◌==◌}
 use Rattle.std.specs.List.{list_all}
-use Rattle.pur_writer.specs.Bytes.{is_no_quote}
+use Rattle.pur_writer.specs.Private.Bytes.{is_no_quote}
 use Rattle.pur_laws.proofs.Options.{if_none}
 use Rattle.pur_laws.proofs.Places.{none_at_all, none_before}
 use Rattle.pur_writer.proofs.attributes.cut_at_quote.Goals as goal

@@ -1,6 +1,6 @@
 use Rattle.std.proofs.Common.{◌≡◌, true, sym, subst}
 use Rattle.std.specs.List.{list_all}
-use Rattle.pur_writer.specs.Bytes.{is_special, is_plain}
+use Rattle.pur_writer.specs.Private.Bytes.{is_special, is_plain}
 use Rattle.pur_laws.proofs.Options.{if_none}
 use Rattle.pur_laws.proofs.Places.{none_at_all, none_before}
 use Rattle.pur_writer.proofs.escaping.cut_at_special.Goals as goal

@@ -4,7 +4,7 @@ use Rattle.std.specs.Str.{chars}
 use Rattle.std.proofs.lemmas.Bool.Decides.{nat_tests}
 use Rattle.pur_laws.proofs.Texts.{no_chars}
 use Rattle.pur_tokens.specs.Joining.{tokens_given}
-use Rattle.pur_lexer.specs.Readings.{left_of}
+use Rattle.pur_lexer.specs.Private.Readings.{left_of}
 use Rattle.pur_lexer.proofs.LexLemmas.{left-next, left-some, left-none}
 use Rattle.pur_lexer.proofs.lexing.Lexer.next.Goals as goal
 

@@ -1,7 +1,7 @@
 -- What is left stays so while nothing is given.
 use Rattle.std.proofs.Common.{◌≡◌, length}
 use Rattle.std.specs.Str.{chars}
-use Rattle.pur_lexer.specs.Readings.{left_of}
+use Rattle.pur_lexer.specs.Private.Readings.{left_of}
 use Rattle.pur_lexer.proofs.lexing.Lexer.next.Given as goal
 
 abbrev pub invariant-reading : goal.invariant-reading

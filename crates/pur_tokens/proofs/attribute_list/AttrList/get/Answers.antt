@@ -1,6 +1,6 @@
 use Rattle.std.proofs.Common.{sym, ◌∙◌}
 use Rattle.std.specs.Str.{chars}
-use Rattle.pur_tokens.specs.Storage.{stored_of}
+use Rattle.pur_tokens.specs.Private.Storage.{stored_of}
 use Rattle.pur_tokens.proofs.AttributeLaws.{value_of-at, value_of-absent}
 use Rattle.pur_tokens.proofs.attribute_list.AttrList.get.Goals as goal
 

@@ -1,7 +1,7 @@
 use Rattle.std.proofs.Common.{◌≡◌, false, true, refl}
 use Rattle.pur_tokens.specs.Texts.{text_of}
 use Rattle.pur_tokens.specs.Attributes.{has_name}
-use Rattle.pur_tokens.specs.Storage.{stored_of}
+use Rattle.pur_tokens.specs.Private.Storage.{stored_of}
 use Rattle.pur_tokens.proofs.AttributeLaws.{has_name-at, is_distinct-push}
 use Rattle.pur_tokens.proofs.attribute_list.AttrList.push_if_new.Goals as goal
 

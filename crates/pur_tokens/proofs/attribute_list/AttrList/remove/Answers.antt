@@ -1,6 +1,6 @@
 use Rattle.std.proofs.Common.{sym, ◌∙◌}
 use Rattle.std.specs.Str.{chars}
-use Rattle.pur_tokens.specs.Storage.{stored_of}
+use Rattle.pur_tokens.specs.Private.Storage.{stored_of}
 use Rattle.pur_tokens.proofs.AttributeLaws.{has_name-at, remove-at, without-absent, is_distinct-without}
 use Rattle.pur_tokens.proofs.attribute_list.AttrList.remove.Goals as goal
 

@@ -2,7 +2,7 @@ use Rattle.std.proofs.Common.{◌≡◌, false, sym, ◌∙◌}
 use Rattle.std.specs.Str.{chars}
 use Rattle.pur_tokens.specs.Texts.{text_of}
 use Rattle.pur_tokens.specs.Attributes.{has_name}
-use Rattle.pur_tokens.specs.Storage.{stored_of}
+use Rattle.pur_tokens.specs.Private.Storage.{stored_of}
 use Rattle.pur_tokens.proofs.AttributeLaws.{with_value_at-is, with_value-absent, is_distinct-with_value_at, is_distinct-push}
 use Rattle.pur_tokens.proofs.attribute_list.AttrList.set.Goals as goal
 

@@ -1,6 +1,6 @@
 use Rattle.std.proofs.Common.{◌≡◌, drop, arith}
 use Rattle.pur_tokens.specs.Attributes.{weight_of}
-use Rattle.pur_tokens.specs.Storage.{stored_of}
+use Rattle.pur_tokens.specs.Private.Storage.{stored_of}
 use Rattle.pur_tokens.proofs.AttributeLaws.{weight-next, weight_of-past}
 use Rattle.pur_tokens.proofs.attribute_list.AttrList.weight.Goals as goal
 

@@ -1,6 +1,6 @@
 use Rattle.std.proofs.Common.{◌≡◌, ◌≤◌, ◌+◌, ◌-◌, ◌^◌, ℕ, min, drop}
 use Rattle.pur_tokens.specs.Attributes.{weight_of}
-use Rattle.pur_tokens.specs.Storage.{stored_of}
+use Rattle.pur_tokens.specs.Private.Storage.{stored_of}
 use Rattle.pur_tokens.proofs.attribute_list.AttrList.weight.Given as goal
 
 -- what is counted with what is left to count

@@ -1,6 +1,6 @@
 use Rattle.std.proofs.Common.{◌≡◌, ◌∙◌}
-use Rattle.pur_tokens.specs.Places.{place_of}
-use Rattle.pur_tokens.specs.Pairs.{stored_names}
+use Rattle.pur_tokens.specs.Private.Places.{place_of}
+use Rattle.pur_tokens.specs.Private.Index.{stored_names}
 use Rattle.pur_tokens.proofs.StorageLaws.{IsPlaceOf-place_of, absent-place_of}
 use Rattle.pur_tokens.proofs.indexed_pairs.IndexedPairs.position.Goals as goal
 

@@ -1,6 +1,7 @@
 use Rattle.std.proofs.Common.{◌≡◌, map, set, sym, ap, ◌∙◌}
-use Rattle.pur_tokens.specs.Places.{place_of}
-use Rattle.pur_tokens.specs.Pairs.{attribute_of, stored_names}
+use Rattle.pur_tokens.specs.Private.Places.{place_of}
+use Rattle.pur_tokens.specs.Pairs.{attribute_of}
+use Rattle.pur_tokens.specs.Private.Index.{stored_names}
 use Rattle.pur_tokens.specs.declared.stored_pair.Pair.{Pair}
 use Rattle.pur_tokens.proofs.StorageLaws.{pairs-set, stored_names-set}
 use Rattle.pur_tokens.proofs.indexed_pairs.IndexedPairs.replace.Goals as goal

@@ -1,7 +1,7 @@
 use Rattle.std.proofs.Common.{◌≡◌, slice_get, Some, sym, add-one}
 use Rattle.pur_tokens.specs.Texts.{text_of}
 use Rattle.pur_tokens.specs.Attributes.{names_of, values_of}
-use Rattle.pur_tokens.specs.Storage.{attributes_of}
+use Rattle.pur_tokens.specs.Private.Storage.{attributes_of}
 use Rattle.pur_tokens.proofs.AttributeLaws.{has_name-take, take-next}
 use Rattle.pur_tokens.proofs.pairs_in_order.PairsInOrder.copied_into.Goals as goal
 

@@ -3,7 +3,7 @@ use Rattle.pur_tree.specs.Building.{written_of, opened_of, closings_of}
 use Rattle.pur_tree.specs.Tokens.{joined}
 use Rattle.pur_wellform.specs.declared.machine.Machine.{Machine}
 use Rattle.pur_wellform.specs.Progress.{Progress, closed_behind}
-use Rattle.pur_wellform.specs.Machines.{progress_of}
+use Rattle.pur_wellform.specs.Private.Machines.{progress_of}
 use Rattle.pur_wellform.proofs.ClosingFacts.{ends}
 use Rattle.pur_wellform.proofs.closing.Closing.finish.Goals as goal
 

@@ -13,7 +13,7 @@ use Rattle.pur_wellform.specs.Search.{level_in, Entry, barred, direct, inside}
 use Rattle.pur_wellform.specs.Closing.{State, Run, writing, changed_to, followed_by, is_formatting, newest, turn_of}
 use Rattle.pur_wellform.specs.Invariants.{Kept}
 use Rattle.pur_wellform.specs.Progress.{Progress, before_all}
-use Rattle.pur_wellform.specs.Opens.{tags_of, AreOpen}
+use Rattle.pur_wellform.specs.Private.Opens.{tags_of, AreOpen}
 
 -- an element that waits, with its attributes
 abbrev pub pending_tag : Pending → PlainElem

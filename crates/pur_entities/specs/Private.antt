@@ -1,0 +1,3 @@
+-- Definitions that serve private contracts and views alone: no public contract says anything by them.
+pub mod Cuts
+pub mod Tables

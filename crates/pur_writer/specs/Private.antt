@@ -1,0 +1,2 @@
+-- Definitions that serve private contracts and views alone: no public contract says anything by them.
+pub mod Bytes
