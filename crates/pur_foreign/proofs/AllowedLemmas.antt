@@ -4,6 +4,7 @@ use Rattle.std.specs.Prelude.{Bool, if◌then◌else◌, ◌&&◌, not, codes}
 use Rattle.std.specs.List.{list_all}
 use Rattle.std.specs.Str.{bytes_eq}
 use Rattle.std.proofs.lemmas.Bool.{and_parts, and_from}
+use Rattle.pur_laws.proofs.Truth.{either}
 use Rattle.pur_laws.proofs.Lists.{all-append, all-filter}
 use Rattle.pur_text.specs.Characters.{is_allowed}
 use Rattle.pur_text.specs.Trimming.{trimmed}
@@ -29,11 +30,6 @@ PairsAllowed pairs = list_all (attribute_has_only is_allowed) pairs ≡ true
 
 abbrev TokensAllowed : List PlainToken → Type 0
 TokensAllowed tokens = list_all (token_has_only is_allowed) tokens ≡ true
-
--- what stands on either side of a choice holds of the choice
-either : {A : Type 0} (P : A → Type 0) (b : Bool) (x y : A) → P x → P y → P (if b then x else y)
-either P true x y first second = first
-either P false x y first second = second
 
 -- ---- attributes
 

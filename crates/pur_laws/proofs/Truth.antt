@@ -1,7 +1,7 @@
 -- Truth values: what `Rattle.std.proofs.lemmas.Bool` lacks.
 use Rattle.std.proofs.Common.{◌≡◌, Bool, true, false, refl, sym}
 use mathlib.Core.Bool.{beq}
-use Rattle.std.specs.Prelude.{◌&&◌, ◌||◌}
+use Rattle.std.specs.Prelude.{◌&&◌, ◌||◌, if◌then◌else◌}
 
 -- two tests that are true together are equal
 pub true_together : (a b : Bool) → (a ≡ true → b ≡ true) → (b ≡ true → a ≡ true) → a ≡ b
@@ -33,3 +33,8 @@ or_true false = refl
 pub or_false : (a : Bool) → (a || false) ≡ a
 or_false true = refl
 or_false false = refl
+
+-- what stands on either side of a choice holds of the choice
+pub either : {A : Type 0} (P : A → Type 0) (b : Bool) (x y : A) → P x → P y → P (if b then x else y)
+either P true x y first second = first
+either P false x y first second = second

@@ -6,6 +6,7 @@ use Rattle.std.specs.List.{list_all}
 use Rattle.std.proofs.lemmas.Bool.{and_parts, and_from}
 use Rattle.std.proofs.lemmas.Bool.Decides.{nat_tests}
 use Rattle.std.proofs.lemmas.List.Folds.{list_all-map}
+use Rattle.pur_laws.proofs.Truth.{either}
 use Rattle.pur_laws.proofs.Lists.{all-append, all-drop, all-filter, all-weaker}
 use Rattle.pur_text.specs.Characters.{is_allowed, is_space}
 use Rattle.pur_entities.specs.References.{decoded}
@@ -68,11 +69,6 @@ use Rattle.pur_lexer.specs.Lexing.{given_behind, tokens_of}
 -- a text has allowed characters alone
 abbrev Allowed : List ℕ → Type 0
 Allowed text = list_all is_allowed text ≡ true
-
--- what stands on either side of a choice holds of the choice
-either : {A : Type 0} (P : A → Type 0) (b : Bool) (x y : A) → P x → P y → P (if b then x else y)
-either P true x y first second = first
-either P false x y first second = second
 
 -- ---- texts that are cut
 

@@ -2,6 +2,7 @@
 use Rattle.std.proofs.Common.{◌≡◌, ℕ, suc, ◌-◌, List, [], ◌∷◌, ◌++◌, length, map, filter, reverse, take, drop, refl, sym, subst, Bool, true, false, ◌&&◌, ◌||◌, if◌then◌else◌, cond, nat_le, Option, Some, None}
 use Rattle.std.specs.List.{list_all, list_any}
 use Rattle.std.proofs.lemmas.Bool.{and_parts, and_from}
+use Rattle.pur_laws.proofs.Truth.{either}
 use Rattle.pur_laws.proofs.Lists.{all-append, all-drop, all-filter, all-parts, all-reverse, all-take}
 use Rattle.pur_text.specs.Characters.{is_allowed, is_blank}
 use Rattle.pur_names.specs.Elements.{element_named}
@@ -34,11 +35,6 @@ record Fine (state : State) : Type 0 where
 record Writes (run : Run) : Type 0 where
   fine : Fine run.state
   written : WrittenFine run.written
-
--- what stands on either side of a choice holds of the choice
-either : {A : Type 0} (P : A → Type 0) (b : Bool) (x y : A) → P x → P y → P (if b then x else y)
-either P true x y first second = first
-either P false x y first second = second
 
 follow : (first : Run) (next : State → Run) → Writes first → (Fine first.state → Writes (next first.state)) → Writes (followed_by first next)
 follow first next one two =
