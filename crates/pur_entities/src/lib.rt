@@ -5,6 +5,8 @@
 mod entities;
 mod laws;
 mod references;
+#[cfg(test)]
+mod tests;
 
 pub use entities::lookup;
 pub use laws::{

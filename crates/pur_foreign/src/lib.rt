@@ -5,8 +5,6 @@
 mod laws;
 mod removal;
 mod strict;
-#[cfg(test)]
-mod tests;
 
 pub use laws::{kept_is_joined, kept_is_permitted, removal_keeps_allowed, removal_keeps_texts};
 pub use removal::{Removal, remove_foreign};

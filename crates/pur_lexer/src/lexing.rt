@@ -126,6 +126,3 @@ fn is_empty_text(token: &Token) -> bool
         _ => false,
     }
 }
-
-#[cfg(test)]
-mod tests;

@@ -1,7 +1,7 @@
 -- What holds of nodes each of which stands where it may.
 use Rattle.std.proofs.Common.{◌≤◌, List, [], arith}
 use Rattle.pur_names.specs.declared.elements.Element.{Element}
-use Rattle.pur_settings.specs.Rules.{Rules}
+use Rattle.pur_settings.specs.Rules.{Rules, permits_element}
 use Rattle.pur_tree.specs.Nodes.{Nodes, level_in}
 use Rattle.pur_tree.specs.Properties.{Holds, permitted, letters, free}
 use Rattle.pur_wellform.specs.Search as search

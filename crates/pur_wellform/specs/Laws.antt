@@ -3,7 +3,7 @@ use Rattle.std.specs.Prelude.{ℕ, ◌+◌, ◌≤◌, ◌≡◌, true, List, []
 use Rattle.std.specs.List.{list_all}
 use Rattle.pur_names.specs.Elements.{element_name}
 use Rattle.pur_tokens.specs.Tokens as read
-use Rattle.pur_settings.specs.Rules.{Rules}
+use Rattle.pur_settings.specs.Rules.{Rules, permits_element}
 use Rattle.pur_tree.specs.Nodes.{Nodes, is_sound, is_joined, level_of}
 use Rattle.pur_tree.specs.Places.{level_limit}
 use Rattle.pur_tree.specs.Properties.{Holds, permitted, letters, free}

@@ -2,7 +2,7 @@
 ghost use Rattle.std.specs.Prelude.{◌≡◌, ◌≤◌, ◌+◌, ◌∷◌, ℕ, List, [], true, length, map, IfOk, IsTrue, OnOk, OnErr};
 ghost use Rattle.std.specs.List.{list_all};
 ghost use Rattle.pur_tokens.specs.Tokens.{PlainToken, plain_token};
-ghost use Rattle.pur_settings.specs.Rules.{Rules};
+ghost use Rattle.pur_settings.specs.Rules.{Rules, permits_element};
 ghost use Rattle.pur_tree.specs.Forests.{IsForest};
 ghost use Rattle.pur_tree.specs.Image.{nodes_of};
 ghost use Rattle.pur_tree.specs.Nodes.{is_joined, level_of};
