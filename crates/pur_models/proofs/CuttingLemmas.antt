@@ -7,14 +7,8 @@ use Rattle.std.proofs.lemmas.Bool.{and_from, and_parts, le-leb, leb-true, not-tr
 use Rattle.pur_modules.specs.declared.kinds.Child.{Child}
 use Rattle.pur_modules.specs.Expressions.{Step}
 use Rattle.pur_models.specs.Languages.{IsInLanguage, IsInWay, first_way, has_disjoint_steps, has_letter, later_way, letters_in, no_step, step_first}
-use Rattle.pur_models.specs.Private.Runs.{longest_run}
+use Rattle.pur_models.specs.Deciding.{longest_run, is_cut}
 use Rattle.pur_models.proofs.RunLemmas.{IsRun-longest, begins_elsewhere, letters_of_way, longest_run-run}
-
--- whether taking the longest run for each step uses the word up
-abbrev pub is_cut : List Step → List Child → Bool
-is_cut [] [] = true
-is_cut [] (c ∷ word) = false
-is_cut (step ∷ steps) word = nat_le step.least (longest_run step word) && is_cut steps (drop (longest_run step word) word)
 
 -- a word that is cut up is one of the way
 pub IsInWay-cut : (steps : List Step) (word : List Child) → is_cut steps word ≡ true → IsInWay steps word

@@ -11,8 +11,7 @@ use Rattle.pur_modules.specs.Expressions as plain
 use Rattle.pur_models.specs.declared.expressions.Step.{Step}
 use Rattle.pur_models.specs.Images.{step_of, way_of}
 use Rattle.pur_models.specs.Languages.{IsInLanguage, IsInWay, first_way, has_disjoint_steps, later_way}
-use Rattle.pur_models.specs.Private.Runs.{longest_run}
-use Rattle.pur_models.proofs.CuttingLemmas.{is_cut}
+use Rattle.pur_models.specs.Deciding.{longest_run, is_cut}
 
 -- a step whose longest run is too short ends the cutting
 pub cut_stops : (way : List Step) (i : ℕ) (step : Step) (word : List Child) → i < length way → step ≡ get_or way i step

@@ -9,7 +9,7 @@ use Rattle.pur_laws.proofs.Lists.{all-prefix}
 use Rattle.pur_modules.specs.declared.kinds.Child.{Child}
 use Rattle.pur_modules.specs.Expressions.{Step}
 use Rattle.pur_models.specs.Languages.{IsInWay, IsRun, all_among, has_letter, letters_in, no_step, step_first}
-use Rattle.pur_models.specs.Private.Runs.{longest_run}
+use Rattle.pur_models.specs.Deciding.{longest_run}
 use Rattle.pur_models.proofs.LetterLemmas.{all_among-left, all_among-right, apart}
 
 -- each letter of a word of a way is a letter of the way

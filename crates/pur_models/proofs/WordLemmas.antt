@@ -14,7 +14,8 @@ use Rattle.pur_modules.specs.Expressions.{Step, any_of, elems, expression_of, is
 use Rattle.pur_modules.specs.Groups.{block, inline}
 use Rattle.pur_models.specs.Languages.{IsInLanguage, IsInWay, IsRun, Language, all_among, first_way, later_way, letters_in, no_step, step_first}
 use Rattle.pur_models.specs.Laws.{IsTableWord, may_be_empty, takes_any_number, takes_one_or_more}
-use Rattle.pur_models.proofs.CuttingLemmas.{IsInLanguage-cut, cut-IsInLanguage, is_cut}
+use Rattle.pur_models.specs.Deciding.{is_cut}
+use Rattle.pur_models.proofs.CuttingLemmas.{IsInLanguage-cut, cut-IsInLanguage}
 use Rattle.pur_models.proofs.ExpressionLemmas.{AreDisjoint-expression_of}
 use Rattle.pur_models.proofs.LetterLemmas.{all_among-left, all_among-right}
 use Rattle.pur_models.proofs.RunLemmas.{letters_of_way}

@@ -9,6 +9,7 @@ use Rattle.pur_modules.specs.declared.kinds.Content.TheVariants.{Inline, Flow, B
 use Rattle.pur_modules.specs.declared.kinds.Doctype.{Doctype}
 use Rattle.pur_modules.specs.Expressions.{any_of, elems, is_letter, optional, some_of}
 use Rattle.pur_models.specs.Languages.{IsRun, Language, has_letter}
+use Rattle.pur_models.specs.Deciding.{is_word}
 
 -- whether the kind takes any number of its letters
 abbrev pub takes_any_number : Content → Bool
@@ -93,3 +94,7 @@ NothingIsEmpty = (doctype : Doctype) (word : List Child) → Language doctype No
 abbrev pub TableWordsAreItsParts : Type 0
 TableWordsAreItsParts =
     (doctype : Doctype) (word : List Child) → Language doctype TableParts word ↔ IsTableWord word
+
+-- a word is one of a kind exactly where the test finds it so
+abbrev pub WordsAreDecided : Type 0
+WordsAreDecided = (doctype : Doctype) (content : Content) (word : List Child) → IsTrue (is_word doctype content word) ↔ Language doctype content word

@@ -1,6 +1,6 @@
 //! Laws of the words of the content kinds, each the contract of a function that does nothing.
 
-ghost use Rattle.pur_models.specs.Laws.{WordsAreOfAllowedLetters, AllowedLettersStandInWords, AnyLettersAreAWord, SomeLettersAreAWord, EmptyWordIsOfFewKinds, NothingIsEmpty, TableWordsAreItsParts};
+ghost use Rattle.pur_models.specs.Laws.{WordsAreOfAllowedLetters, AllowedLettersStandInWords, AnyLettersAreAWord, SomeLettersAreAWord, EmptyWordIsOfFewKinds, NothingIsEmpty, TableWordsAreItsParts, WordsAreDecided};
 
 /// Each letter of a word of a kind is one that `children` and `text_allowed` allow there.
 pub fn words_are_of_allowed_letters()
@@ -35,4 +35,9 @@ pub fn nothing_is_empty()
 /// A word of a table is a caption, columns of one kind, a head, a foot and bodies of one kind, in this order.
 pub fn table_words_are_its_parts()
     ensures { TableWordsAreItsParts }
+{}
+
+/// A word is one of a kind exactly where taking the longest run for each step uses it up.
+pub fn words_are_decided()
+    ensures { WordsAreDecided }
 {}

@@ -4,7 +4,7 @@ ghost use Rattle.std.specs.Prelude.{◌≡◌, ◌≤◌, ◌↔◌, IsTrue, len
 ghost use Rattle.std.specs.List.{prefix_len};
 ghost use Rattle.pur_models.specs.Images.{step_of, ways_of};
 ghost use Rattle.pur_models.specs.Languages.{AreDisjoint, IsInLanguage, IsInWay, has_disjoint_steps, has_letter};
-ghost use Rattle.pur_models.specs.Private.Runs.{longest_run};
+ghost use Rattle.pur_models.specs.Deciding.{longest_run};
 
 use crate::expressions::{Expr, Step};
 use pur_modules::Child;

@@ -2,8 +2,8 @@
 use Rattle.std.proofs.Common.{◌≡◌, ◌<◌, false, sym, ◌∙◌, map, drop, length, nat_eq, arith}
 use Rattle.std.proofs.lemmas.Grind.{common_steps}
 use Rattle.pur_models.specs.Images.{step_of}
-use Rattle.pur_models.specs.Private.Runs.{longest_run}
-use Rattle.pur_models.proofs.CuttingLemmas.{IsInWay-cut, cut-IsInWay, is_cut}
+use Rattle.pur_models.specs.Deciding.{longest_run, is_cut}
+use Rattle.pur_models.proofs.CuttingLemmas.{IsInWay-cut, cut-IsInWay}
 use Rattle.pur_models.proofs.MatchingLemmas.{cut_ends, cut_stops}
 use Rattle.pur_models.proofs.matching.is_in_way.Goals as goal
 

@@ -1,6 +1,6 @@
 use Rattle.std.proofs.Common.{◌≡◌, ◌≤◌, length, map, drop}
 use Rattle.pur_models.specs.Images.{step_of}
-use Rattle.pur_models.proofs.CuttingLemmas.{is_cut}
+use Rattle.pur_models.specs.Deciding.{is_cut}
 use Rattle.pur_models.proofs.matching.is_in_way.Given as goal
 
 abbrev pub invariant-loop-step : goal.invariant-loop-step

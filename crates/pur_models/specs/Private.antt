@@ -1,2 +1,0 @@
--- Definitions that serve private contracts and views alone: no public contract says anything by them.
-pub mod Runs

@@ -1,0 +1,5 @@
+pub mod Validity
+pub mod Goodness
+pub mod Deciding
+pub mod Rows
+pub mod Laws

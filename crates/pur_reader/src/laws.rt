@@ -1,0 +1,33 @@
+//! Laws of validity, each the contract of a function that does nothing.
+
+ghost use Rattle.pur_reader.specs.Laws.{ValidityIsDecided};
+ghost use Rattle.pur_reader.specs.Rows.{TextInAFragment, BlocksInNoInline, ListsHaveItems, CaptionsComeFirst, TablesHaveBodies, FeetComeBeforeBodies, BodiesAreOfOneKind, CellsStandInRows, RowsHaveCells, LinksStandInNoLink, NothingBigInPre, EditsHoldWhatTheirParentHolds, StrictQuotesHoldBlocks, ElementsArePermitted, FragmentsHaveParents, LevelsEnd};
+
+use pur_models::words_are_decided;
+
+/// Nodes are valid exactly where a test that computes finds them so.
+pub fn validity_is_decided()
+    ensures { ValidityIsDecided }
+{
+    words_are_decided();
+}
+
+/// Worked examples of validity: what the filter writes, and a neighbour that one rule refuses.
+pub fn worked_examples()
+    ensures text { TextInAFragment }
+    ensures blocks { BlocksInNoInline }
+    ensures items { ListsHaveItems }
+    ensures captions { CaptionsComeFirst }
+    ensures bodies { TablesHaveBodies }
+    ensures feet { FeetComeBeforeBodies }
+    ensures one_kind { BodiesAreOfOneKind }
+    ensures cells { CellsStandInRows }
+    ensures rows { RowsHaveCells }
+    ensures links { LinksStandInNoLink }
+    ensures pre { NothingBigInPre }
+    ensures edits { EditsHoldWhatTheirParentHolds }
+    ensures strict { StrictQuotesHoldBlocks }
+    ensures permitted { ElementsArePermitted }
+    ensures parents { FragmentsHaveParents }
+    ensures levels { LevelsEnd }
+{}
