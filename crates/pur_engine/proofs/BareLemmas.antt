@@ -1,11 +1,12 @@
 -- What removal leaves can be closed, also without attributes.
-use Rattle.std.proofs.Common.{◌≡◌, List, [], ◌∷◌, refl, ap, ◌∙◌, true, ◌&&◌}
+use Rattle.std.proofs.Common.{◌≡◌, ◌+◌, ℕ, List, [], ◌∷◌, refl, ap, ◌∙◌, true, ◌&&◌}
 use Rattle.std.specs.List.{list_all}
 use Rattle.pur_tokens.specs.Tokens.{PlainToken, text_token, start_token, end_token, empty_token, hidden_token, comment_token}
 use Rattle.pur_settings.specs.Rules.{Rules}
 use Rattle.std.proofs.lemmas.Bool.{and_from, and_parts}
 use Rattle.pur_text.specs.Characters.{is_allowed}
 use Rattle.pur_tokens.specs.Characters.{token_has_only}
+use Rattle.pur_tokens.specs.Joining.{count_in_text, count_in_token}
 use Rattle.pur_wellform.specs.Standing.{can_be_closed, is_spellable_read}
 use Rattle.pur_engine.specs.Bare.{bare, without_attributes}
 
@@ -37,3 +38,17 @@ bare_spellable (token ∷ tokens) all =
     one (empty_token name attrs) all = refl
     one (hidden_token name body) all = refl
     one (comment_token text) all = refl
+
+-- and its text is the same
+pub bare_counts : (c : ℕ) (tokens : List PlainToken) → count_in_text c (bare tokens) ≡ count_in_text c tokens
+bare_counts c [] = refl
+bare_counts c (token ∷ tokens) =
+    ap (λ n. n + count_in_text c (bare tokens)) (one token) ∙ ap (λ n. count_in_token c token + n) (bare_counts c tokens)
+  where
+    one : (token : PlainToken) → count_in_token c (without_attributes token) ≡ count_in_token c token
+    one (text_token text) = refl
+    one (start_token name attrs) = refl
+    one (end_token name) = refl
+    one (empty_token name attrs) = refl
+    one (hidden_token name body) = refl
+    one (comment_token text) = refl

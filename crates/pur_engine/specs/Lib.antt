@@ -1,3 +1,4 @@
 pub mod Bare
+pub mod Ledger
 pub mod Purified
 pub mod Spelled

@@ -1,11 +1,9 @@
 -- Bytes that are the spelling of a fragment.
-use Rattle.std.specs.Prelude.{◌≡◌, ℕ, List, encode_utf8_all}
+use Rattle.std.specs.Prelude.{ℕ, List}
 use Rattle.pur_tree.specs.Nodes.{Nodes}
-use Rattle.pur_tree.specs.Spelling.{Spells}
+use Rattle.pur_tree.specs.Spelling.{AreSpelled}
 
--- bytes are, in UTF-8, the text that some nodes are spelled as (XML 1.0, in one of its spellings)
+-- some nodes are spelled as the bytes (XML 1.0, in one of its spellings)
 pub record IsSpelled (bytes : List ℕ) : Type 0 where
   pub nodes : Nodes
-  pub text : List ℕ
-  pub spells : Spells nodes text
-  pub in_utf8 : bytes ≡ encode_utf8_all text
+  pub spelled : AreSpelled nodes bytes

@@ -12,19 +12,20 @@ ghost use Rattle.pur_wellform.specs.Closing.{closed};
 ghost use Rattle.pur_wellform.specs.Progress.{closed_behind};
 ghost use Rattle.pur_wellform.specs.Standing.{can_be_closed};
 ghost use Rattle.pur_engine.specs.Bare.{bare, without_attributes};
+ghost use Rattle.pur_engine.specs.Ledger.{AddsNoText};
 ghost use Rattle.pur_engine.specs.Purified.{purified};
 ghost use Rattle.pur_engine.specs.Spelled.{IsSpelled};
 ghost use Rattle.pur_text.specs.Characters.{is_allowed};
 ghost use Rattle.pur_tree.specs.Nodes.{is_joined};
 ghost use Rattle.pur_tree.specs.Spelling.{is_spellable};
 
-use pur_foreign::{Removal, kept_is_permitted, removal_keeps_allowed};
+use pur_foreign::{Removal, kept_is_permitted, removal_keeps_allowed, removal_keeps_texts};
 use pur_lexer::{Lexer, tokens_are_allowed, tokens_are_joined};
 use pur_settings::Settings;
 use pur_text::{clean_if_needed, cleaned_is_allowed};
 use pur_tokens::{AttrList, Tag, Token};
-use pur_tree::Forest;
-use pur_wellform::{Closing, closed_is_spellable};
+use pur_tree::{Forest, counts_alike};
+use pur_wellform::{Closing, closed_is_spellable, closed_ledger};
 use pur_writer::write;
 use std::alloc::{AllocError, Global};
 
@@ -35,8 +36,12 @@ use std::alloc::{AllocError, Global};
 pub fn purify(alloc: Global, settings: &Settings, bytes: &[u8]) -> Result<Vec<u8>, AllocError>
     ensures purified { IfOk result (λ text. text.items ≡ purified settings.now bytes.now) }
     ensures spelled { IfOk result (λ text. IsSpelled text.items) }
+    ensures adds_no_text { IfOk result (λ text. AddsNoText bytes.now text.items) }
 {
     cleaned_is_allowed();
+    removal_keeps_texts();
+    closed_ledger();
+    counts_alike();
     let text = clean_if_needed(alloc, bytes)?;
     let forest = fragment_of(alloc, settings, text.as_str())?;
     let output = write(alloc, &forest)?;

@@ -13,7 +13,7 @@ use Rattle.pur_names.specs.declared.schemes.SchemeName.{SchemeName}
 use Rattle.pur_modules.specs.AttributeLists.{attributes_of, required_of}
 use Rattle.pur_modules.specs.Groups.{is_among, elements_of}
 use Rattle.pur_modules.specs.declared.kinds.Content.{Content}
-use Rattle.pur_modules.specs.declared.kinds.Content.TheVariants.{Flow}
+use Rattle.pur_modules.specs.declared.kinds.Content.TheVariants.{Flow, Inline}
 use Rattle.pur_modules.specs.declared.kinds.Doctype.{Doctype}
 use Rattle.pur_modules.specs.declared.kinds.Doctype.TheVariants.{Transitional}
 
@@ -51,6 +51,12 @@ default_rules = record {
   properties = None;
   schemes = None;
 }
+
+-- whether this is what a fragment may hold: what a `div` holds, or what a `span` holds
+abbrev pub is_for_fragments : Content → Bool
+is_for_fragments Flow = true
+is_for_fragments Inline = true
+is_for_fragments content = false
 
 -- whether a list has something that passes a test; where there is no list, all is permitted
 abbrev pub is_listed : {A : Type 0} → Option (List A) → (A → Bool) → Bool

@@ -1,13 +1,13 @@
 //! Reading settings out of a TOML table, key by key.
 
-ghost use Rattle.std.specs.Prelude.{◌≡◌, pos};
+ghost use Rattle.std.specs.Prelude.{◌≡◌, pos, IfOk, IsTrue};
 ghost use Rattle.std.specs.Option.{ok_or};
 ghost use Rattle.std.specs.Ordering.{int_eq};
 ghost use Rattle.toml.specs.Data.{as_str, as_array};
 ghost use Rattle.toml.specs.View.{view, array_view, table_view};
 ghost use Rattle.pur_settings.specs.Private.Walk.{Ascends, with_member, with_members};
 ghost use Rattle.pur_settings.specs.Reading.{reading_map, text_in, list_in, number_in};
-ghost use Rattle.pur_settings.specs.Rules.{default_rules};
+ghost use Rattle.pur_settings.specs.Rules.{default_rules, is_for_fragments};
 ghost use Rattle.pur_settings.specs.Settings.{doctype_in, settings_in};
 ghost use Rattle.pur_settings.specs.Table.{content_in_parent, doctype_named, element_of, in_order, table_for};
 
@@ -83,7 +83,8 @@ fn read_doctype(value: &Value) -> Result<Doctype, SettingsFault>
 
 // What the fragment may hold in the parent that a value names.
 fn read_parent(value: &Value) -> Result<Content, SettingsFault>
-    ensures { result ≡ text_in content_in_parent (view value.now) }
+    ensures value { result ≡ text_in content_in_parent (view value.now) }
+    ensures kind { IfOk result (λ content. IsTrue (is_for_fragments content)) }
 {
     match read_text(value)? {
         "div" => Ok(Content::Flow),

@@ -1,11 +1,11 @@
 //! The settings of a site.
 
-ghost use Rattle.std.specs.Prelude.{◌≡◌, ◌≢◌, ◌≤◌, ◌^◌, length, map, Some, Err, IfErr, option_copied, string_bytes};
+ghost use Rattle.std.specs.Prelude.{◌≡◌, ◌≢◌, IsTrue, ◌≤◌, ◌^◌, length, map, Some, Err, IfErr, option_copied, string_bytes};
 ghost use Rattle.std.specs.List.{list_any};
 ghost use Rattle.pur_names.specs.Attributes.{same_attr};
 ghost use Rattle.pur_names.specs.Properties.{same_prop};
 ghost use Rattle.pur_names.specs.Schemes.{same_scheme};
-ghost use Rattle.pur_settings.specs.Rules.{default_rules, permits_element, is_language, is_meant, permits_attribute, permits_property, permits_a_scheme};
+ghost use Rattle.pur_settings.specs.Rules.{default_rules, is_for_fragments, permits_element, is_language, is_meant, permits_attribute, permits_property, permits_a_scheme};
 ghost use Rattle.pur_settings.specs.Settings.{settings_of, IsRefusedFor};
 
 use crate::element_table::ElementTable;
@@ -17,6 +17,8 @@ use std::alloc::Global;
 use std::marker::Model;
 
 /// What a site configures. Contracts see the record of what the settings say.
+///
+/// The fragment holds what a `div` holds or what a `span` holds, and nothing else.
 #[derive(Drop)]
 pub struct Settings {
     attributes: Option<Vec<Attr>>,
@@ -36,7 +38,8 @@ pub struct Settings {
 
 impl Model for Settings {
     ghost use Rattle.std.specs.Prelude.{option_map, string_bytes};
-    ghost use Rattle.pur_settings.specs.Rules.{Rules};
+    ghost use Rattle.std.specs.Prelude.{IsTrue};
+    ghost use Rattle.pur_settings.specs.Rules.{Rules, is_for_fragments};
     ghost use Rattle.pur_settings.specs.Private.Texts.{text_held, texts_held};
 
     ghost Value = { Rules };
@@ -56,6 +59,8 @@ impl Model for Settings {
       properties = option_map (λ properties. properties.items) settings.properties;
       schemes = option_map (λ schemes. schemes.items) settings.schemes;
     } };
+
+    ghost invariant = { λ settings. IsTrue (is_for_fragments settings.parent) };
 }
 
 impl Settings {
@@ -158,7 +163,8 @@ impl Settings {
 
     /// What may stand directly in the fragment: what a `div` holds, or what a `span` holds.
     pub fn parent(&self) -> Content
-        ensures { result ≡ self.now.parent }
+        ensures value { result ≡ self.now.parent }
+        ensures kind { IsTrue (is_for_fragments self.now.parent) }
     {
         self.parent
     }
@@ -237,6 +243,7 @@ impl Settings {
 
     // Sets what the fragment may hold.
     pub(crate) fn set_parent(&mut self, parent: Content)
+        requires { IsTrue (is_for_fragments parent) }
         ensures { self.new ≡ record self.old { parent = parent } }
     {
         self.parent = parent;

@@ -1,4 +1,4 @@
-use Rattle.std.specs.Prelude.{ℕ, List, [], ◌∷◌, ◌++◌, ◌≡◌, ◌==◌, Bool, true, false, ◌&&◌, cond, if◌then◌else◌, codes}
+use Rattle.std.specs.Prelude.{ℕ, List, [], ◌∷◌, ◌++◌, ◌≡◌, ◌==◌, Bool, true, false, ◌&&◌, cond, if◌then◌else◌, codes, encode_utf8_all}
 use Rattle.std.specs.List.{list_all, list_any, flat_map}
 use Rattle.std.specs.Str.{bytes_eq}
 use Rattle.pur_text.specs.Characters.{is_allowed}
@@ -78,3 +78,9 @@ pub data Spells : Nodes → List ℕ → Type 0 where
   spells_element : {e : PlainElem} {kids rest : Nodes} {u t : List ℕ}
       → is_empty_element e.name ≡ false → are_spellable e.attrs ≡ true → Spells kids u → Spells rest t
       → Spells (elem_first e kids rest) (start_tag_of e ++ (u ++ (end_tag_of e.name ++ t)))
+
+-- bytes are, in UTF-8, the text that the nodes are spelled as
+pub record AreSpelled (nodes : Nodes) (bytes : List ℕ) : Type 0 where
+  pub text : List ℕ
+  pub spells : Spells nodes text
+  pub in_utf8 : bytes ≡ encode_utf8_all text
