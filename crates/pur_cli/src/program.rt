@@ -3,6 +3,7 @@ ghost use Rattle.std.specs.Prelude.{◌≡◌, ◌≢◌, ◌⊎◌, ◌+◌, �
 ghost use Rattle.pur_io.specs.Faults.{Rose};
 ghost use Rattle.pur_io.specs.Taken.{taken_more};
 ghost use Rattle.pur_io.specs.Texts.{plain_name, text_named};
+ghost use Rattle.pur_engine.specs.Ledger.{AddsNoText};
 ghost use Rattle.pur_engine.specs.Spelled.{IsSpelled};
 ghost use Rattle.pur_cli.specs.Answers.{answer_under, answer_to, answer_of};
 ghost use Rattle.pur_cli.specs.Choices.{ChoseSettings, ChoseInput};
@@ -67,6 +68,9 @@ pub fn run<H: Shelf, O: Sink, E: Sink>(
         O.taken out.new ≡ taken_more (O.taken out.old) (answer_of (map string_bytes words.now) texts).text) }
     ensures spelled { result ≡ code_of Status.Done → IfSome (H.texts shelf.old) (λ texts.
         IsSpelled (answer_of (map string_bytes words.now) texts).text) }
+    ensures adds_no_text { result ≡ code_of Status.Done → IfSome (H.texts shelf.old) (λ texts.
+        IfSome (command_of (map string_bytes words.now)) (λ command.
+        AddsNoText (text_named texts command.input) (answer_of (map string_bytes words.now) texts).text)) }
     ensures nothing { result ≢ code_of Status.Done → result ≢ code_of Status.CannotWrite →
         O.taken out.new ≡ O.taken out.old }
     ensures front { result ≡ code_of Status.CannotWrite → IfSome (H.texts shelf.old) (λ texts.
