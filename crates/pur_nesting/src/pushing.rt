@@ -39,8 +39,7 @@ pub fn push_all(out: &mut Vec<Node>, mut nodes: Vec<Node>) -> Result<(), AllocEr
 
 /// An element without attributes.
 pub fn bare(alloc: Global, name: Element, children: Vec<Node>) -> Elem
-    ensures name { result.name ≡ name }
-    ensures attrs { plain_elem result.name result.attrs ≡ bare name }
+    ensures itself { plain_elem result.name result.attrs ≡ bare name }
     ensures children { nodes_of result.children.items ≡ nodes_of children.items }
 {
     Elem {
