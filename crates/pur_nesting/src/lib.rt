@@ -14,6 +14,8 @@ mod pushing;
 mod roles;
 mod settled;
 mod tables;
+#[cfg(test)]
+mod tests;
 
 pub use laws::worked_examples;
 pub use nesting::fix_nesting;
