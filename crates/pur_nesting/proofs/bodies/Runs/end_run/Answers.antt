@@ -1,0 +1,25 @@
+use Rattle.std.proofs.Common.{◌≡◌, true, false, refl, ap, sym, ◌∙◌}
+use Rattle.std.specs.Vec.Iter.{into_iter_items}
+use Rattle.pur_names.specs.declared.elements.Element.TheVariants.{Tbody}
+use Rattle.pur_tree.specs.Image.{nodes_of}
+use Rattle.pur_tree.specs.Nodes.{bare, plain_elem, no_nodes, text_first, elem_first, nodes_append}
+use Rattle.pur_tree.proofs.NodesLemmas.{nodes_append-none}
+use Rattle.pur_tree.proofs.NodeLemmas.{before_text, before_elem}
+use Rattle.pur_nesting.specs.Tables.{as_bodies, run_of_rows, runs_in_bodies}
+use Rattle.pur_nesting.specs.Private.Grouping.{pending, unfinished}
+use Rattle.pur_tree.proofs.PushLemmas.{none_left}
+use Rattle.pur_nesting.proofs.bodies.Runs.end_run.Goals as goal
+
+pub returns-in_ok-push_elem-clause-same : goal.returns-in_ok-push_elem-clause-same
+returns-in_ok-push_elem-clause-same c = λ e kids more other.
+    rw (c.if-self.true, other)
+    ((rw (c.bare.ensures.itself, c.bare.ensures.children) at (c.in_ok-push_elem.ensures (elem_first e kids (runs_in_bodies false more))))
+    ∙ ap (λ k. nodes_append (nodes_of c.args.self.now.done.items) (elem_first (bare Tbody) k (elem_first e kids (runs_in_bodies false more))))
+    (ap (λ v. nodes_of v.items) c.replace-rows.ensures.value ∙ sym (nodes_append-none (nodes_of c.args.self.now.run.items))))
+
+pub returns-in_ok-push_elem-clause-all : goal.returns-in_ok-push_elem-clause-all
+returns-in_ok-push_elem-clause-all c =
+    rw (c.if-self.true)
+    ((rw (c.bare.ensures.itself, c.bare.ensures.children) at (c.in_ok-push_elem.ensures no_nodes))
+    ∙ ap (λ k. nodes_append (nodes_of c.args.self.now.done.items) (elem_first (bare Tbody) k no_nodes))
+    (ap (λ v. nodes_of v.items) c.replace-rows.ensures.value ∙ sym (nodes_append-none (nodes_of c.args.self.now.run.items))))

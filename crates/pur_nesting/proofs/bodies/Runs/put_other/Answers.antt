@@ -1,0 +1,23 @@
+use Rattle.std.proofs.Common.{◌≡◌, true, false, refl, ap, sym, ◌∙◌}
+use Rattle.std.specs.Vec.Iter.{into_iter_items}
+use Rattle.pur_names.specs.declared.elements.Element.TheVariants.{Tbody}
+use Rattle.pur_tree.specs.Image.{nodes_of}
+use Rattle.pur_tree.specs.Nodes.{plain_elem, no_nodes, text_first, elem_first, nodes_append}
+use Rattle.pur_tree.proofs.NodesLemmas.{nodes_append-none}
+use Rattle.pur_tree.proofs.NodeLemmas.{before_text, before_elem}
+use Rattle.pur_nesting.specs.Tables.{as_bodies, run_of_rows, runs_in_bodies}
+use Rattle.pur_nesting.specs.Private.Grouping.{pending, unfinished}
+use Rattle.pur_tree.proofs.PushLemmas.{none_left}
+use Rattle.pur_nesting.proofs.bodies.Runs.put_other.Goals as goal
+
+pub returns : goal.returns
+returns c = λ more.
+    let e = plain_elem c.args.elem.name c.args.elem.attrs in
+    let kids = nodes_of c.args.elem.children.items in
+    let ended = c.end_run.new.self in
+    let over : ended.in_run ≡ false = c.in_ok-end_run.ensures.over in
+    let front : pending (record ended { done = c.push_elem.new.out }) more ≡ nodes_append (nodes_of ended.done.items) (elem_first e kids (runs_in_bodies false more)) =
+    rw over (c.in_ok-push_elem.ensures (runs_in_bodies false more)) in
+    let back : nodes_append (nodes_of ended.done.items) (elem_first e kids (runs_in_bodies false more)) ≡ pending ended (elem_first e kids more) =
+    rw (over, c.requires) refl in
+    front ∙ back ∙ c.in_ok-end_run.ensures.same e kids more c.requires

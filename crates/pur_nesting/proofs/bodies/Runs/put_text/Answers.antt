@@ -1,0 +1,19 @@
+use Rattle.std.proofs.Common.{◌≡◌, true, false, refl, ap, sym, ◌∙◌}
+use Rattle.std.specs.Vec.Iter.{into_iter_items}
+use Rattle.pur_names.specs.declared.elements.Element.TheVariants.{Tbody}
+use Rattle.pur_tree.specs.Image.{nodes_of}
+use Rattle.pur_tree.specs.Nodes.{bare, plain_elem, no_nodes, text_first, elem_first, nodes_append}
+use Rattle.pur_tree.proofs.NodesLemmas.{nodes_append-none}
+use Rattle.pur_tree.proofs.NodeLemmas.{before_text, before_elem}
+use Rattle.pur_nesting.specs.Tables.{as_bodies, run_of_rows, runs_in_bodies}
+use Rattle.pur_nesting.specs.Private.Grouping.{pending, unfinished}
+use Rattle.pur_tree.proofs.PushLemmas.{none_left}
+use Rattle.pur_nesting.proofs.bodies.Runs.put_text.Goals as goal
+
+pub returns-in_ok-push_text : goal.returns-in_ok-push_text
+returns-in_ok-push_text c = λ more.
+    rw c.if-self.true
+    (ap (λ k. nodes_append (nodes_of c.args.self.now.done.items) (elem_first (bare Tbody) k (runs_in_bodies true more))) (c.in_ok-push_text.ensures (run_of_rows more)))
+
+pub returns-in_ok-push_text-2 : goal.returns-in_ok-push_text-2
+returns-in_ok-push_text-2 c = λ more. rw c.if-self.false (c.in_ok-push_text-2.ensures (runs_in_bodies false more))

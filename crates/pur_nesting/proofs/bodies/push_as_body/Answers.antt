@@ -1,0 +1,20 @@
+use Rattle.std.proofs.Common.{◌≡◌, true, false, refl, ap, sym, ◌∙◌}
+use Rattle.std.specs.Vec.Iter.{into_iter_items}
+use Rattle.pur_names.specs.declared.elements.Element.TheVariants.{Tbody}
+use Rattle.pur_tree.specs.Image.{nodes_of}
+use Rattle.pur_tree.specs.Nodes.{no_nodes, text_first, elem_first, nodes_append}
+use Rattle.pur_tree.proofs.NodesLemmas.{nodes_append-none}
+use Rattle.pur_tree.proofs.NodeLemmas.{before_text, before_elem}
+use Rattle.pur_nesting.specs.Tables.{as_bodies, run_of_rows, runs_in_bodies}
+use Rattle.pur_nesting.specs.Private.Grouping.{pending, unfinished}
+use Rattle.pur_tree.proofs.PushLemmas.{none_left}
+use Rattle.pur_nesting.proofs.bodies.push_as_body.Goals as goal
+
+pub returns-in_ok-push_text-in-Text : goal.returns-in_ok-push_text-in-Text
+returns-in_ok-push_text-in-Text c = λ more. rw (c.in-Text.is, before_text c.in-Text.text more) (c.in_ok-push_text-in-Text.ensures (as_bodies c.args.tbody more))
+
+pub returns-in_ok-push_all-in-Elem : goal.returns-in_ok-push_all-in-Elem
+returns-in_ok-push_all-in-Elem c = λ more.
+    rw (c.in-Elem.is, before_elem c.in-Elem.elem.name c.in-Elem.elem.attrs c.in-Elem.elem.children more)
+    (c.in_ok-push_all-in-Elem.ensures (as_bodies c.args.tbody more)
+    ∙ ap (λ b. nodes_append (nodes_of c.args.out.now.items) (nodes_append b (as_bodies c.args.tbody more))) c.in_ok-body-in-Elem.ensures)

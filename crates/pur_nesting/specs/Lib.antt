@@ -1,0 +1,6 @@
+pub mod Nesting
+pub mod Parts
+pub mod Rows
+pub mod Settled
+pub mod Tables
+pub mod Private

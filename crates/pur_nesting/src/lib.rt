@@ -1,0 +1,21 @@
+//! Nesting repair: what closing can't do going forward is done looking at whole elements.
+//!
+//! Lists without items vanish, a table's parts come into order, and rows get bodies where bodies stand beside them.
+//! `specs/` has the definition: the parts of a table, a table of its parts, and the rule by which each element is
+//! repaired when its children are.
+#![tactic(auto)]
+
+mod bodies;
+mod laws;
+mod nesting;
+mod parts;
+mod permits;
+mod pushing;
+mod roles;
+mod settled;
+mod tables;
+#[cfg(test)]
+mod tests;
+
+pub use laws::worked_examples;
+pub use nesting::fix_nesting;

@@ -1,0 +1,158 @@
+//! Whether nodes need no repair. Nothing is changed, and no memory is taken.
+
+ghost use Rattle.std.specs.Prelude.{◌≡◌, true, false, ◌&&◌, ◌||◌, not, if◌then◌else◌};
+ghost use Rattle.pur_nesting.specs.Parts.{role_of};
+ghost use Rattle.pur_tree.specs.Image.{nodes_of, node_before};
+ghost use Rattle.pur_tree.specs.Nodes.{PlainElem, Nodes, elem_first};
+ghost use Rattle.pur_nesting.specs.Private.Order.{stage, after, goes_on, goes_from, is_in_order, is_settled, is_settled_after, is_settled_from, is_settled_element};
+
+use crate::nesting::vanishes;
+use crate::roles::{Role, role_of};
+use crate::tables::is_blank;
+use pur_tree::{Elem, Node, is_table};
+
+/// How far into a table's word the children have come, and whether there was a body.
+#[derive(Clone, Copy)]
+pub struct Order {
+    pub stage: u8,
+    pub had: bool,
+}
+
+fn stage(groups: bool, bodies: bool, role: Role) -> u8
+    ensures { result ≡ stage groups bodies role }
+{
+    match role {
+        Role::Title => 0,
+        Role::Column => if groups { 9 } else { 1 },
+        Role::ColumnGroup => if groups { 1 } else { 9 },
+        Role::Header => 2,
+        Role::Footer => 3,
+        Role::Body => if bodies { 4 } else { 9 },
+        Role::Row => if bodies { 9 } else { 4 },
+        Role::Stranger => 9,
+    }
+}
+
+fn after(role: Role) -> u8
+    ensures { result ≡ after role }
+{
+    match role {
+        Role::Title | Role::Column | Role::ColumnGroup => 1,
+        Role::Header => 3,
+        Role::Footer | Role::Body | Role::Row => 4,
+        Role::Stranger => 9,
+    }
+}
+
+fn order_after_element(groups: bool, bodies: bool, order: Order, role: Role) -> Option<Order>
+    ensures { (e : PlainElem) (kids : Nodes) (more : Nodes) → role_of e.name ≡ role
+        → goes_on groups bodies order.stage order.had (elem_first e kids more) ≡ goes_from groups bodies result more }
+{
+    let here = stage(groups, bodies, role);
+    if here < order.stage {
+        return None;
+    }
+    if 4 < here {
+        return None;
+    }
+    if 4 <= here {
+        return Some(Order {
+            stage: after(role),
+            had: true,
+        });
+    }
+    Some(Order {
+        stage: after(role),
+        had: order.had,
+    })
+}
+
+fn order_after(groups: bool, bodies: bool, order: Order, node: &Node) -> Option<Order>
+    ensures { (more : Nodes) → goes_on groups bodies order.stage order.had (node_before node.now more) ≡ goes_from groups bodies result more }
+{
+    match node {
+        Node::Text(text) => {
+            if is_blank(text.as_str()) {
+                return Some(order);
+            }
+            None
+        }
+        Node::Elem(elem) => order_after_element(groups, bodies, order, role_of(elem.name)),
+    }
+}
+
+fn goes_on(groups: bool, bodies: bool, nodes: &[Node]) -> bool
+    ensures { result ≡ goes_on groups bodies 0 false (nodes_of nodes.now) }
+{
+    let mut order = Order {
+        stage: 0,
+        had: false,
+    };
+    for node in nodes {
+        match order_after(groups, bodies, order, node) {
+            Some(next) => order = next,
+            None => return false,
+        }
+    }
+    order.had
+}
+
+fn is_in_order(nodes: &[Node]) -> bool
+    ensures { result ≡ is_in_order (nodes_of nodes.now) }
+{
+    goes_on(false, false, nodes)
+        || goes_on(false, true, nodes)
+        || goes_on(true, false, nodes)
+        || goes_on(true, true, nodes)
+}
+
+#[cycle(settled)]
+fn is_settled_element(elem: &Elem) -> bool
+    ensures { result ≡ is_settled_element elem.now.name (nodes_of elem.now.children.items) }
+{
+    if vanishes(elem.name, &elem.children) {
+        return false;
+    }
+    if is_table(elem.name) {
+        if !is_in_order(&elem.children) {
+            return false;
+        }
+    }
+    is_settled(&elem.children)
+}
+
+#[cycle(settled)]
+fn after_node(after_text: bool, node: &Node) -> Option<bool>
+    ensures { (more : Nodes) → is_settled_after after_text (node_before node.now more) ≡ is_settled_from result more }
+{
+    match node {
+        Node::Text(_) => {
+            if after_text {
+                return None;
+            }
+            Some(true)
+        }
+        Node::Elem(elem) => {
+            if is_settled_element(elem) {
+                return Some(false);
+            }
+            None
+        }
+    }
+}
+
+/// Whether nodes need no repair: no texts are neighbours, no element wants a child, and the parts of each table are in
+/// order. It takes no memory.
+#[cycle(settled)]
+pub fn is_settled(nodes: &[Node]) -> bool
+    ensures { result ≡ is_settled (nodes_of nodes.now) }
+{
+    let mut after_text = false;
+    for node in nodes {
+        match after_node(after_text, node) {
+            Some(next) => after_text = next,
+            None => return false,
+        }
+    }
+    true
+}
