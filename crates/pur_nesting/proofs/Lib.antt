@@ -4,3 +4,6 @@ pub mod NodeLemmas
 pub mod PartLemmas
 pub mod RoleLemmas
 pub mod RowLemmas
+pub mod PartCountLemmas
+pub mod NeverMoreLemmas
+pub mod OneLemmas

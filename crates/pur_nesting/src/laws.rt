@@ -1,5 +1,6 @@
 //! Laws of nesting repair, each the contract of a function that does nothing.
 
+ghost use Rattle.pur_nesting.specs.Laws.{NeverMore};
 ghost use Rattle.pur_nesting.specs.Rows.{DropsAnEmptyList, KeepsADefinition, JoinsNeighbours, PutsTheCaptionFirst, MakesAParagraph, LosesACaption, DropsABlankTable, PutsBodiesLast, MakesTheHeadABody, TakesTheRowsOfTheHead, MakesTheFootABody, PutsTheFootBeforeBodies, DropsAnEmptyTable, DropsRowsWithoutCells, KeepsAttributesOfAHead, TakesTheRowsOfAFoot, PutsRunsIntoBodies};
 
 /// Worked examples of the definition.
@@ -21,4 +22,9 @@ pub fn worked_examples()
     ensures attributes { KeepsAttributesOfAHead }
     ensures foot_rows { TakesTheRowsOfAFoot }
     ensures runs { PutsRunsIntoBodies }
+{}
+
+/// No character, white space too, stands more often after repair than before.
+pub fn never_more()
+    ensures { NeverMore }
 {}

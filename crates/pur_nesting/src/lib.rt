@@ -15,5 +15,5 @@ mod roles;
 mod settled;
 mod tables;
 
-pub use laws::worked_examples;
+pub use laws::{never_more, worked_examples};
 pub use nesting::fix_nesting;
