@@ -7,3 +7,5 @@ pub mod RowLemmas
 pub mod PartCountLemmas
 pub mod NeverMoreLemmas
 pub mod OneLemmas
+pub mod LetterLemmas
+pub mod KeptLemmas

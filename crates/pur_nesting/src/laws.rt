@@ -1,7 +1,32 @@
 //! Laws of nesting repair, each the contract of a function that does nothing.
 
-ghost use Rattle.pur_nesting.specs.Laws.{NeverMore};
+ghost use Rattle.pur_nesting.specs.Laws.{KeepsLetters, KeepsFree, KeepsPermitted, KeepsSpellable, NeverMore};
 ghost use Rattle.pur_nesting.specs.Rows.{DropsAnEmptyList, KeepsADefinition, JoinsNeighbours, PutsTheCaptionFirst, MakesAParagraph, LosesACaption, DropsABlankTable, PutsBodiesLast, MakesTheHeadABody, TakesTheRowsOfTheHead, MakesTheFootABody, PutsTheFootBeforeBodies, DropsAnEmptyTable, DropsRowsWithoutCells, KeepsAttributesOfAHead, TakesTheRowsOfAFoot, PutsRunsIntoBodies};
+
+/// Letters stay letters of their parent's content.
+pub fn keeps_letters()
+    ensures { KeepsLetters }
+{}
+
+/// Repair lets no element into one that excludes it.
+pub fn keeps_free()
+    ensures { KeepsFree }
+{}
+
+/// No element comes in that isn't permitted.
+pub fn keeps_permitted()
+    ensures { KeepsPermitted }
+{}
+
+/// Allowed characters stay alone in texts, and attributes that may stand in a tag stay so.
+pub fn keeps_spellable()
+    ensures { KeepsSpellable }
+{}
+
+/// No character, white space too, stands more often after repair than before.
+pub fn never_more()
+    ensures { NeverMore }
+{}
 
 /// Worked examples of the definition.
 pub fn worked_examples()
@@ -22,9 +47,4 @@ pub fn worked_examples()
     ensures attributes { KeepsAttributesOfAHead }
     ensures foot_rows { TakesTheRowsOfAFoot }
     ensures runs { PutsRunsIntoBodies }
-{}
-
-/// No character, white space too, stands more often after repair than before.
-pub fn never_more()
-    ensures { NeverMore }
 {}
