@@ -17,8 +17,12 @@ use Rattle.pur_modules.specs.Contents.{content_held}
 use Rattle.pur_modules.specs.Expressions.{is_letter, has_text_letter, child_letters}
 use Rattle.pur_tree.specs.Nodes.{Nodes, no_nodes, text_first, elem_first}
 use Rattle.pur_tree.specs.Properties.{Holds, letters}
+use Rattle.pur_tree.specs.Walks.{walk}
+use Rattle.pur_tree.proofs.HoldsLemmas.{Holds-walk}
 use Rattle.pur_nesting.specs.declared.permits.Permits.{Permits}
+use Rattle.pur_nesting.specs.Nesting.{repair, nested}
 use Rattle.pur_nesting.specs.Private.Keeping.{StaysInRepair}
+use Rattle.pur_nesting.proofs.HoldsLemmas.{Holds-repair, Holds-nested}
 
 pub held_table : (d : Doctype) (k : Content) → content_held d Table k ≡ TableParts
 unfolding content_held
@@ -117,3 +121,10 @@ letters_stay d p = record {
       space_anywhere d (content_held d Tbody (content_held d Table k)) s
       (space_in d (content_held d Table k) s (ap (λ x. is_letter d x Text) (held_table d k) ∙ (no_text d).1) h);
 }
+
+-- letters through the repair of each element
+pub letters_walk : (d : Doctype) (p : Permits) (k : Content) (f : Nodes) → Holds (letters d) k f → Holds (letters d) k (walk (repair p) f)
+letters_walk d p k f h = Holds-walk (letters d) (repair p) (Holds-repair (letters d) p (letters_stay d p)) k f h
+
+pub letters_nested : (d : Doctype) (p : Permits) (k : Content) (f : Nodes) → Holds (letters d) k f → Holds (letters d) k (nested p f)
+letters_nested d p k f h = Holds-nested (letters d) p (letters_stay d p) k f h

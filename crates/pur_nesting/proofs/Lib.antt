@@ -9,3 +9,8 @@ pub mod NeverMoreLemmas
 pub mod OneLemmas
 pub mod LetterLemmas
 pub mod KeptLemmas
+pub mod BlankLemmas
+pub mod NeededLemmas
+pub mod CaptionLemmas
+pub mod TableCountLemmas
+pub mod CountLemmas

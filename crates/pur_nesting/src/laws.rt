@@ -1,6 +1,6 @@
 //! Laws of nesting repair, each the contract of a function that does nothing.
 
-ghost use Rattle.pur_nesting.specs.Laws.{KeepsLetters, KeepsFree, KeepsPermitted, KeepsSpellable, NeverMore};
+ghost use Rattle.pur_nesting.specs.Laws.{KeepsLetters, KeepsFree, KeepsPermitted, KeepsSpellable, KeepsCounts, NeverMore};
 ghost use Rattle.pur_nesting.specs.Rows.{DropsAnEmptyList, KeepsADefinition, JoinsNeighbours, PutsTheCaptionFirst, MakesAParagraph, LosesACaption, DropsABlankTable, PutsBodiesLast, MakesTheHeadABody, TakesTheRowsOfTheHead, MakesTheFootABody, PutsTheFootBeforeBodies, DropsAnEmptyTable, DropsRowsWithoutCells, KeepsAttributesOfAHead, TakesTheRowsOfAFoot, PutsRunsIntoBodies};
 
 /// Letters stay letters of their parent's content.
@@ -21,6 +21,11 @@ pub fn keeps_permitted()
 /// Allowed characters stay alone in texts, and attributes that may stand in a tag stay so.
 pub fn keeps_spellable()
     ensures { KeepsSpellable }
+{}
+
+/// Each character that isn't white space stands after repair or is lost with a caption.
+pub fn keeps_counts()
+    ensures { KeepsCounts }
 {}
 
 /// No character, white space too, stands more often after repair than before.

@@ -15,5 +15,5 @@ mod roles;
 mod settled;
 mod tables;
 
-pub use laws::{keeps_free, keeps_letters, keeps_permitted, keeps_spellable, never_more, worked_examples};
+pub use laws::{keeps_counts, keeps_free, keeps_letters, keeps_permitted, keeps_spellable, never_more, worked_examples};
 pub use nesting::fix_nesting;
