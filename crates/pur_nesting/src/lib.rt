@@ -14,6 +14,8 @@ mod pushing;
 mod roles;
 mod settled;
 mod tables;
+#[cfg(test)]
+mod tests;
 
 pub use laws::{keeps_counts, keeps_free, keeps_letters, keeps_permitted, keeps_spellable, never_more, worked_examples};
 pub use nesting::fix_nesting;
