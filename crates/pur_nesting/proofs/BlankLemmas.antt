@@ -11,6 +11,7 @@ use Rattle.pur_tokens.specs.Texts.{times}
 use Rattle.pur_tree.specs.Nodes.{Nodes, no_nodes, text_first, elem_first}
 use Rattle.pur_tree.specs.Properties.{Holds, letters}
 use Rattle.pur_tree.specs.Walks.{count_in_text}
+use Rattle.pur_tree.specs.Words.{word_of}
 use Rattle.pur_nesting.specs.declared.roles.Part.TheVariants.{Lead}
 use Rattle.pur_nesting.proofs.HoldsLemmas.{Fits}
 use Rattle.pur_nesting.proofs.LetterLemmas.{space_in}
@@ -45,3 +46,8 @@ pub count_in_text-NoElems : (c : ℕ) (f : Nodes) → is_space c ≡ false → B
 count_in_text-NoElems c no_nodes other b n = refl
 count_in_text-NoElems c (text_first s f) other b n = omega (arith, none_in_space c s other b.0, count_in_text-NoElems c f other b.1 n)
 count_in_text-NoElems c (elem_first e kids f) other b n = absurd n
+
+pub word-NoElems : (f : Nodes) → Blank f → NoElems f → word_of false f ≡ []
+word-NoElems no_nodes b n = refl
+word-NoElems (text_first s f) b n = rw b.0 (word-NoElems f b.1 n)
+word-NoElems (elem_first e kids f) b n = absurd n

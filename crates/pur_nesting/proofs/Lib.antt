@@ -1,14 +1,19 @@
 pub mod BlankLemmas
+pub mod BodyLemmas
 pub mod CaptionLemmas
+pub mod ColumnLemmas
 pub mod CountLemmas
 pub mod ForestLemmas
+pub mod HaveWordsLemmas
 pub mod HoldsLemmas
+pub mod JoinedWordsLemmas
 pub mod KeptLemmas
 pub mod LetterLemmas
 pub mod NeededLemmas
 pub mod NeverMoreLemmas
 pub mod NodeLemmas
 pub mod OneLemmas
+pub mod OnlyLemmas
 pub mod OrderLemmas
 pub mod PartCountLemmas
 pub mod PartLemmas
@@ -16,3 +21,6 @@ pub mod RoleLemmas
 pub mod RowLemmas
 pub mod SettledLemmas
 pub mod TableCountLemmas
+pub mod TableHasWordsLemmas
+pub mod TableWordLemmas
+pub mod WordLemmas

@@ -1,6 +1,6 @@
 //! Laws of nesting repair, each the contract of a function that does nothing.
 
-ghost use Rattle.pur_nesting.specs.Laws.{KeepsLetters, KeepsFree, KeepsPermitted, KeepsSpellable, KeepsCounts, NeverMore};
+ghost use Rattle.pur_nesting.specs.Laws.{KeepsLetters, KeepsFree, KeepsPermitted, KeepsSpellable, KeepsCounts, NeverMore, GivesWords};
 ghost use Rattle.pur_nesting.specs.Rows.{DropsAnEmptyList, KeepsADefinition, JoinsNeighbours, PutsTheCaptionFirst, MakesAParagraph, LosesACaption, DropsABlankTable, PutsBodiesLast, MakesTheHeadABody, TakesTheRowsOfTheHead, MakesTheFootABody, PutsTheFootBeforeBodies, DropsAnEmptyTable, DropsRowsWithoutCells, KeepsAttributesOfAHead, TakesTheRowsOfAFoot, PutsRunsIntoBodies};
 
 /// Letters stay letters of their parent's content.
@@ -31,6 +31,11 @@ pub fn keeps_counts()
 /// No character, white space too, stands more often after repair than before.
 pub fn never_more()
     ensures { NeverMore }
+{}
+
+/// After repair the children of each element are a word of what it holds.
+pub fn gives_words()
+    ensures { GivesWords }
 {}
 
 /// Worked examples of the definition.
