@@ -1,6 +1,42 @@
 //! Laws of nesting repair, each the contract of a function that does nothing.
 
+ghost use Rattle.pur_nesting.specs.Laws.{KeepsLetters, KeepsFree, KeepsPermitted, KeepsSpellable, KeepsCounts, NeverMore, GivesWords};
 ghost use Rattle.pur_nesting.specs.Rows.{DropsAnEmptyList, KeepsADefinition, JoinsNeighbours, PutsTheCaptionFirst, MakesAParagraph, LosesACaption, DropsABlankTable, PutsBodiesLast, MakesTheHeadABody, TakesTheRowsOfTheHead, MakesTheFootABody, PutsTheFootBeforeBodies, DropsAnEmptyTable, DropsRowsWithoutCells, KeepsAttributesOfAHead, TakesTheRowsOfAFoot, PutsRunsIntoBodies};
+
+/// Letters stay letters of their parent's content.
+pub fn keeps_letters()
+    ensures { KeepsLetters }
+{}
+
+/// Repair lets no element into one that excludes it.
+pub fn keeps_free()
+    ensures { KeepsFree }
+{}
+
+/// No element comes in that isn't permitted.
+pub fn keeps_permitted()
+    ensures { KeepsPermitted }
+{}
+
+/// Allowed characters stay alone in texts, and attributes that may stand in a tag stay so.
+pub fn keeps_spellable()
+    ensures { KeepsSpellable }
+{}
+
+/// Each character that isn't white space stands after repair or is lost with a caption.
+pub fn keeps_counts()
+    ensures { KeepsCounts }
+{}
+
+/// No character, white space too, stands more often after repair than before.
+pub fn never_more()
+    ensures { NeverMore }
+{}
+
+/// After repair the children of each element are a word of what it holds.
+pub fn gives_words()
+    ensures { GivesWords }
+{}
 
 /// Worked examples of the definition.
 pub fn worked_examples()

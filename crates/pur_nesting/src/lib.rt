@@ -17,5 +17,5 @@ mod tables;
 #[cfg(test)]
 mod tests;
 
-pub use laws::worked_examples;
+pub use laws::{gives_words, keeps_counts, keeps_free, keeps_letters, keeps_permitted, keeps_spellable, never_more, worked_examples};
 pub use nesting::fix_nesting;
