@@ -4,12 +4,22 @@ use Rattle.pur_text.specs.Cleaning.{cleaned}
 use Rattle.pur_lexer.specs.Lexing.{tokens_of}
 use Rattle.pur_settings.specs.Rules.{Rules}
 use Rattle.pur_foreign.specs.Removal.{without_foreign}
+use Rattle.pur_tree.specs.Nodes.{Nodes}
 use Rattle.pur_tree.specs.Tokens.{tree_of}
 use Rattle.pur_tree.specs.Spelling.{spelling_of}
 use Rattle.pur_wellform.specs.Closing.{closed}
+use Rattle.pur_nesting.specs.Nesting.{nested, permits_of}
 use Rattle.pur_engine.specs.Bare.{bare}
 
--- the purification of an input under settings, as UTF-8: the spelling of the tree of the closed tags, where foreign
--- elements were removed from the tokens of the cleaned text, and their attributes taken off
+-- the tree of the closed tags, where foreign elements were removed from the tokens of the cleaned text, and their attributes
+-- taken off
+abbrev pub closed_tree : Rules → List ℕ → Nodes
+closed_tree rules input = tree_of (closed rules (bare (without_foreign rules (tokens_of (cleaned input)))))
+
+-- the fragment that an input becomes: this tree after the repair of its nesting
+abbrev pub purified_nodes : Rules → List ℕ → Nodes
+purified_nodes rules input = nested (permits_of rules) (closed_tree rules input)
+
+-- the purification of an input under settings: the spelling of this fragment, as UTF-8
 unfoldable pub purified : Rules → List ℕ → List ℕ
-purified rules input = encode_utf8_all (spelling_of (tree_of (closed rules (bare (without_foreign rules (tokens_of (cleaned input)))))))
+purified rules input = encode_utf8_all (spelling_of (purified_nodes rules input))

@@ -15,41 +15,48 @@ ghost use Rattle.pur_engine.specs.Bare.{bare, without_attributes};
 ghost use Rattle.pur_engine.specs.Ledger.{AddsNoText};
 ghost use Rattle.pur_engine.specs.Purified.{purified};
 ghost use Rattle.pur_engine.specs.Spelled.{IsSpelled};
+ghost use Rattle.pur_reader.specs.Goodness.{IsGood};
 ghost use Rattle.pur_text.specs.Characters.{is_allowed};
 ghost use Rattle.pur_tree.specs.Nodes.{is_joined};
 ghost use Rattle.pur_tree.specs.Spelling.{is_spellable};
 
-use pur_foreign::{Removal, kept_is_permitted, removal_keeps_allowed, removal_keeps_texts};
+use crate::laws::{fragments_add_no_text, fragments_are_valid};
+use pur_foreign::{Removal, kept_is_permitted, removal_keeps_allowed};
 use pur_lexer::{Lexer, tokens_are_allowed, tokens_are_joined};
 use pur_settings::Settings;
 use pur_text::{clean_if_needed, cleaned_is_allowed};
 use pur_tokens::{AttrList, Tag, Token};
-use pur_tree::{Forest, counts_alike};
-use pur_wellform::{Closing, closed_is_spellable, closed_ledger};
+use pur_nesting::{fix_nesting, joins_texts, keeps_spellable};
+use pur_tree::Forest;
+use pur_wellform::{Closing, closed_is_spellable};
 use pur_writer::write;
 use std::alloc::{AllocError, Global};
 
 /// The purification of an input of any bytes under the settings, as UTF-8: the input is cleaned and cut into tokens,
-/// foreign elements are removed, all elements are closed, each where it may stand, and the fragment is spelled in one way.
+/// foreign elements are removed, all elements are closed, each where it may stand, their nesting is repaired, and the
+/// fragment is spelled in one way. What is written is good: valid under the settings, attributes aside.
 ///
 /// Until attributes are validated, they are taken off. The error is want of memory.
 pub fn purify(alloc: Global, settings: &Settings, bytes: &[u8]) -> Result<Vec<u8>, AllocError>
     ensures purified { IfOk result (λ text. text.items ≡ purified settings.now bytes.now) }
     ensures spelled { IfOk result (λ text. IsSpelled text.items) }
+    ensures good { IfOk result (λ text. IsGood settings.now text.items) }
     ensures adds_no_text { IfOk result (λ text. AddsNoText bytes.now text.items) }
 {
     cleaned_is_allowed();
-    removal_keeps_texts();
-    closed_ledger();
-    counts_alike();
+    keeps_spellable();
+    joins_texts();
+    fragments_are_valid();
+    fragments_add_no_text();
     let text = clean_if_needed(alloc, bytes)?;
-    let forest = fragment_of(alloc, settings, text.as_str())?;
+    let mut forest = closed_tree(alloc, settings, text.as_str())?;
+    fix_nesting(alloc, settings, &mut forest)?;
     let output = write(alloc, &forest)?;
     Ok(output)
 }
 
-// The fragment of a text. Each token goes through all passes before the next is read, so they never stand together.
-fn fragment_of(alloc: Global, settings: &Settings, text: &str) -> Result<Forest, AllocError>
+// The tree that closing makes of a text. Each token goes through all passes before the next is read, so they never stand together.
+fn closed_tree(alloc: Global, settings: &Settings, text: &str) -> Result<Forest, AllocError>
     requires { IsTrue (list_all is_allowed (chars text.now)) }
     ensures tree { IfOk result (λ forest. IsTreeOf (nodes_of forest) (closed settings.now (bare (without_foreign settings.now (tokens_of (chars text.now)))))) }
     ensures joined { IfOk result (λ forest. IsTrue (is_joined (nodes_of forest))) }

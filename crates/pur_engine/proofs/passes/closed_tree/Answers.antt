@@ -12,7 +12,7 @@ use Rattle.pur_wellform.specs.Progress.{Progress, closed_behind}
 use Rattle.pur_wellform.specs.Standing.{can_be_closed}
 use Rattle.pur_engine.specs.Bare.{bare}
 use Rattle.pur_engine.proofs.BareLemmas.{bare_can, bare_spellable}
-use Rattle.pur_engine.proofs.passes.fragment_of.Goals as goal
+use Rattle.pur_engine.proofs.passes.closed_tree.Goals as goal
 
 pub reading-init : goal.reading-init
 reading-init c =

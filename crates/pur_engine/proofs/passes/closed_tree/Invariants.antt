@@ -9,7 +9,7 @@ use Rattle.pur_wellform.specs.Closing.{closed}
 use Rattle.pur_wellform.specs.Progress.{closed_behind}
 use Rattle.pur_wellform.specs.Standing.{can_be_closed}
 use Rattle.pur_engine.specs.Bare.{bare}
-use Rattle.pur_engine.proofs.passes.fragment_of.Given as goal
+use Rattle.pur_engine.proofs.passes.closed_tree.Given as goal
 
 abbrev pub invariant-reading : goal.invariant-reading
 invariant-reading l = record {
