@@ -23,4 +23,5 @@ pub mod SettledLemmas
 pub mod TableCountLemmas
 pub mod TableHasWordsLemmas
 pub mod TableWordLemmas
+pub mod ValidLemmas
 pub mod WordLemmas
