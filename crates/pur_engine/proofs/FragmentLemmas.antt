@@ -1,4 +1,8 @@
-use Rattle.std.proofs.Common.{◌≡◌, ◌≤◌, ◌+◌, ℕ, List, sym, ap, ◌∙◌, true, arith}
+use Rattle.std.proofs.Common.{◌≡◌, ◌≤◌, ◌+◌, ℕ, List, refl, sym, ap, ◌∙◌, true, arith}
+use Rattle.pur_modules.specs.declared.kinds.Content.{Content}
+use Rattle.pur_modules.specs.declared.kinds.Content.TheVariants.{Inline, Flow, Block, AddressMix, Items, Pairs, TableParts, Rows, Cells, Cols, Nothing}
+use Rattle.pur_models.specs.Laws.{takes_any_number}
+use Rattle.pur_settings.specs.Rules.{is_for_fragments}
 use Rattle.pur_tree.specs.Nodes.{Nodes, is_sound}
 use Rattle.std.specs.Prelude.{encode_utf8_all}
 use Rattle.pur_tree.specs.Spelling.{AreSpelled, Spells, spelling_of}
@@ -9,10 +13,24 @@ use Rattle.pur_tree.proofs.TreeLemmas.{tree_of-tokens}
 pub sound-tree_of : (nodes : Nodes) (tokens : List Token) → is_sound nodes ≡ true → IsTreeOf nodes tokens → nodes ≡ tree_of tokens
 sound-tree_of nodes tokens sound same = sym (tree_of-tokens nodes sound) ∙ ap tree_of same
 
--- what is one part of a sum is no more than the sum
-pub at_most : (a b lost all : ℕ) → a ≡ b → b + lost ≡ all → a ≤ all
-at_most a b lost all same sum = omega arith
+-- what is no more than one part of a sum is no more than the sum
+pub at_most : (a tree written lost all : ℕ) → a ≤ tree → tree ≡ written → written + lost ≡ all → a ≤ all
+at_most a tree written lost all below same sum = omega arith
 
 -- what is written of nodes that are spelled so
 pub written : (nodes : Nodes) {bytes : List ℕ} → Spells nodes (spelling_of nodes) → bytes ≡ encode_utf8_all (spelling_of nodes) → AreSpelled nodes bytes
 written nodes spells same = record { text = spelling_of nodes; spells = spells; in_utf8 = same }
+
+-- what a fragment may hold takes any number of its letters
+pub takes_any : (content : Content) → is_for_fragments content ≡ true → takes_any_number content ≡ true
+takes_any Flow kind = refl
+takes_any Inline kind = refl
+takes_any Block kind = refl
+takes_any AddressMix kind = refl
+takes_any Cols kind = refl
+takes_any Items kind = kind
+takes_any Pairs kind = kind
+takes_any TableParts kind = kind
+takes_any Rows kind = kind
+takes_any Cells kind = kind
+takes_any Nothing kind = kind

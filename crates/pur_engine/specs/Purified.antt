@@ -5,16 +5,20 @@ use Rattle.pur_lexer.specs.Lexing.{tokens_of}
 use Rattle.pur_settings.specs.Rules.{Rules}
 use Rattle.pur_foreign.specs.Removal.{without_foreign}
 use Rattle.pur_tree.specs.Nodes.{Nodes}
-use Rattle.pur_tree.specs.Tokens.{tree_of}
+use Rattle.pur_tree.specs.Tokens.{Token, tree_of}
 use Rattle.pur_tree.specs.Spelling.{spelling_of}
 use Rattle.pur_wellform.specs.Closing.{closed}
 use Rattle.pur_nesting.specs.Nesting.{nested, permits_of}
 use Rattle.pur_engine.specs.Bare.{bare}
 
--- the tree of the closed tags, where foreign elements were removed from the tokens of the cleaned text, and their attributes
--- taken off
+-- the closed tags of an input: foreign elements are removed from the tokens of the cleaned text, their attributes taken off,
+-- and each element is closed
+abbrev pub closed_tags : Rules → List ℕ → List Token
+closed_tags rules input = closed rules (bare (without_foreign rules (tokens_of (cleaned input))))
+
+-- the tree of these tags
 abbrev pub closed_tree : Rules → List ℕ → Nodes
-closed_tree rules input = tree_of (closed rules (bare (without_foreign rules (tokens_of (cleaned input)))))
+closed_tree rules input = tree_of (closed_tags rules input)
 
 -- the fragment that an input becomes: this tree after the repair of its nesting
 abbrev pub purified_nodes : Rules → List ℕ → Nodes

@@ -2,6 +2,7 @@
 //! attributes are taken off.
 #![tactic(auto)]
 
+mod laws;
 mod passes;
 #[cfg(test)]
 mod tests;
