@@ -3,9 +3,10 @@ ghost use Rattle.std.specs.Prelude.{◌≡◌, ◌≢◌, ◌⊎◌, ◌+◌, �
 ghost use Rattle.pur_io.specs.Faults.{Rose};
 ghost use Rattle.pur_io.specs.Taken.{taken_more};
 ghost use Rattle.pur_io.specs.Texts.{plain_name, text_named};
+ghost use Rattle.pur_reader.specs.Goodness.{IsGood};
 ghost use Rattle.pur_engine.specs.Ledger.{AddsNoText};
 ghost use Rattle.pur_engine.specs.Spelled.{IsSpelled};
-ghost use Rattle.pur_cli.specs.Answers.{answer_under, answer_to, answer_of};
+ghost use Rattle.pur_cli.specs.Answers.{settings_named, answer_under, answer_to, answer_of};
 ghost use Rattle.pur_cli.specs.Choices.{ChoseSettings, ChoseInput};
 ghost use Rattle.pur_cli.specs.Limits.{settings_limit, input_limit};
 ghost use Rattle.pur_cli.specs.Private.Ends.{Ends};
@@ -68,6 +69,9 @@ pub fn run<H: Shelf, O: Sink, E: Sink>(
         O.taken out.new ≡ taken_more (O.taken out.old) (answer_of (map string_bytes words.now) texts).text) }
     ensures spelled { result ≡ code_of Status.Done → IfSome (H.texts shelf.old) (λ texts.
         IsSpelled (answer_of (map string_bytes words.now) texts).text) }
+    ensures good { result ≡ code_of Status.Done → IfSome (H.texts shelf.old) (λ texts.
+        IfSome (command_of (map string_bytes words.now)) (λ command. IfSome (settings_named texts command.settings) (λ rules.
+        IsGood rules (answer_of (map string_bytes words.now) texts).text))) }
     ensures adds_no_text { result ≡ code_of Status.Done → IfSome (H.texts shelf.old) (λ texts.
         IfSome (command_of (map string_bytes words.now)) (λ command.
         AddsNoText (text_named texts command.input) (answer_of (map string_bytes words.now) texts).text)) }
@@ -111,7 +115,8 @@ pub fn run<H: Shelf, O: Sink, E: Sink>(
 
 // Filters the input that the command names under its settings.
 fn filter<H: Shelf, O: Sink>(alloc: Global, command: Command, shelf: &mut H, out: &mut O) -> Status
-    ensures { Ends H.Shelf O.Sink (plain_command command) (answer_to (plain_command command)) shelf.old shelf.new out.old out.new result }
+    ensures { Ends H.Shelf O.Sink (plain_command command) (λ texts. settings_named texts (plain_command command).settings)
+        (answer_to (plain_command command)) shelf.old shelf.new out.old out.new result }
 {
     let Command::Filter { settings, input } = command;
     let settings = match read_settings(alloc, shelf, settings) {
@@ -135,7 +140,7 @@ fn filter_under<H: Shelf, O: Sink>(
 ) -> Status
     ensures settings { result ≢ Status.SettingsRefused }
     ensures chosen { H.chosen shelf.new ≡ Some (plain_name name) }
-    ensures ends { Ends H.Shelf O.Sink (record { settings = None; input = plain_name name })
+    ensures ends { Ends H.Shelf O.Sink (record { settings = None; input = plain_name name }) (λ texts. Some settings.now)
         (λ texts. answer_under settings.now (text_named texts (plain_name name))) shelf.old shelf.new out.old out.new result }
 {
     let input = match read_text(alloc, shelf, name, INPUT_LIMIT) {

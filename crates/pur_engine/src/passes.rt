@@ -17,7 +17,7 @@ ghost use Rattle.pur_engine.specs.Purified.{purified};
 ghost use Rattle.pur_engine.specs.Spelled.{IsSpelled};
 ghost use Rattle.pur_reader.specs.Goodness.{IsGood};
 ghost use Rattle.pur_text.specs.Characters.{is_allowed};
-ghost use Rattle.pur_tree.specs.Nodes.{is_joined};
+ghost use Rattle.pur_tree.specs.Forests.{IsForest};
 ghost use Rattle.pur_tree.specs.Spelling.{is_spellable};
 
 use crate::laws::{fragments_add_no_text, fragments_are_valid};
@@ -48,6 +48,8 @@ pub fn purify(alloc: Global, settings: &Settings, bytes: &[u8]) -> Result<Vec<u8
     joins_texts();
     fragments_are_valid();
     fragments_add_no_text();
+    // whatever the settings are, its clause says that a fragment takes any number of what it may hold
+    let _ = settings.parent();
     let text = clean_if_needed(alloc, bytes)?;
     let mut forest = closed_tree(alloc, settings, text.as_str())?;
     fix_nesting(alloc, settings, &mut forest)?;
@@ -59,7 +61,7 @@ pub fn purify(alloc: Global, settings: &Settings, bytes: &[u8]) -> Result<Vec<u8
 fn closed_tree(alloc: Global, settings: &Settings, text: &str) -> Result<Forest, AllocError>
     requires { IsTrue (list_all is_allowed (chars text.now)) }
     ensures tree { IfOk result (λ forest. IsTreeOf (nodes_of forest) (closed settings.now (bare (without_foreign settings.now (tokens_of (chars text.now)))))) }
-    ensures joined { IfOk result (λ forest. IsTrue (is_joined (nodes_of forest))) }
+    ensures forest { IfOk result (λ forest. IsForest (nodes_of forest)) }
     ensures spellable { IfOk result (λ forest. IsTrue (is_spellable (nodes_of forest))) }
 {
     tokens_are_joined();

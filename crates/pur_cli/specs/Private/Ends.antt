@@ -1,10 +1,12 @@
 -- How a command ends. Each command has this contract, and `run` says it of the program.
-use Rattle.std.specs.Prelude.{◌≡◌, ◌≢◌, ◌⊎◌, ◌+◌, ◌≤◌, List, ℕ, Some, IfSome}
+use Rattle.std.specs.Prelude.{◌≡◌, ◌≢◌, ◌⊎◌, ◌+◌, ◌≤◌, List, ℕ, Option, Some, IfSome}
 use Rattle.pur_io.specs.Faults.{Rose}
 use Rattle.pur_io.specs.Taken.{taken_more}
 use Rattle.pur_io.specs.Texts.{Name, text_named}
 use Rattle.pur_io.specs.declared.traits.Shelf as shelf
 use Rattle.pur_io.specs.declared.traits.Sink as sink
+use Rattle.pur_settings.specs.Rules.{Rules}
+use Rattle.pur_reader.specs.Goodness.{IsGood}
 use Rattle.pur_engine.specs.Ledger.{AddsNoText}
 use Rattle.pur_engine.specs.Spelled.{IsSpelled}
 use Rattle.pur_cli.specs.Answers.{Answer}
@@ -15,8 +17,9 @@ use Rattle.pur_cli.specs.Writing.{TookFront}
 use Rattle.pur_cli.specs.declared.status.Status.{Status}
 use Rattle.pur_cli.specs.declared.status.Status.TheVariants.{Done, OutOfMemory, BadCommandLine, SettingsRefused, InputTooLong, CannotRead, CannotWrite}
 
--- a command that has this answer for the texts of a shelf, and writes it to a sink, ends with a status
-pub record Ends {H O : Type 0} (h : shelf.Ghosts H) (o : sink.Ghosts O) (command : PlainCommand) (answer : List (Name × List ℕ) → Answer)
+-- a command that has these settings and this answer for the texts of a shelf, and writes it to a sink, ends with a status
+pub record Ends {H O : Type 0} (h : shelf.Ghosts H) (o : sink.Ghosts O) (command : PlainCommand)
+    (accepted : List (Name × List ℕ) → Option Rules) (answer : List (Name × List ℕ) → Answer)
     (before after : H) (out written : O) (status : Status) : Type 0 where
   -- which status comes: it is the answer's, but for want of memory and the faults outside
   pub words : status ≢ BadCommandLine
@@ -27,6 +30,7 @@ pub record Ends {H O : Type 0} (h : shelf.Ghosts H) (o : sink.Ghosts O) (command
   -- what was written
   pub whole : status ≡ Done → IfSome (h.texts before) (λ texts. o.taken written ≡ taken_more (o.taken out) (answer texts).text)
   pub spelled : status ≡ Done → IfSome (h.texts before) (λ texts. IsSpelled (answer texts).text)
+  pub good : status ≡ Done → IfSome (h.texts before) (λ texts. IfSome (accepted texts) (λ rules. IsGood rules (answer texts).text))
   pub adds_no_text : status ≡ Done → IfSome (h.texts before) (λ texts. AddsNoText (text_named texts command.input) (answer texts).text)
   pub nothing : status ≢ Done → status ≢ CannotWrite → o.taken written ≡ o.taken out
   pub front : status ≡ CannotWrite → IfSome (h.texts before) (λ texts. TookFront (o.taken out) (o.taken written) (answer texts).text)
