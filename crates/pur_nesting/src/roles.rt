@@ -124,11 +124,7 @@ impl Met {
                 met.groups = !met.columns;
             }
             Role::Header => {
-                met.part = if met.head {
-                    Part::Bodies
-                } else {
-                    Part::Heads
-                };
+                met.part = if met.head { Part::Bodies } else { Part::Heads };
                 met.head = true;
             }
             Role::Footer => {
