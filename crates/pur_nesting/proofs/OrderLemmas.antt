@@ -150,7 +150,7 @@ parts_whole g b s had m (elem_first e kids f) ready k =
     (parts_whole g b (after (role_of e.name)) (had || nat_le 4 (stage g b (role_of e.name))) (next m (role_of e.name)) f r.1 go.2)
 
 -- elements of these names alone
-abbrev Only : List Element → Nodes → Type 0
+abbrev pub Only : List Element → Nodes → Type 0
 Only es no_nodes = Unit {0}
 Only es (text_first s f) = Only es f
 Only es (elem_first e kids f) = (is_among es e.name ≡ true) × Only es f

@@ -1,6 +1,73 @@
 //! Laws of nesting repair, each the contract of a function that does nothing.
 
+ghost use Rattle.pur_nesting.specs.Laws.{KeepsLetters, KeepsFree, KeepsPermitted, KeepsSpellable, KeepsCounts, NeverMore, GivesWords, GivesAWord, JoinsTexts, LeavesSettled, IsSettling, ValidAreSettled, RepairsOnce};
 ghost use Rattle.pur_nesting.specs.Rows.{DropsAnEmptyList, KeepsADefinition, JoinsNeighbours, PutsTheCaptionFirst, MakesAParagraph, LosesACaption, DropsABlankTable, PutsBodiesLast, MakesTheHeadABody, TakesTheRowsOfTheHead, MakesTheFootABody, PutsTheFootBeforeBodies, DropsAnEmptyTable, DropsRowsWithoutCells, KeepsAttributesOfAHead, TakesTheRowsOfAFoot, PutsRunsIntoBodies};
+
+/// Letters stay letters of their parent's content.
+pub fn keeps_letters()
+    ensures { KeepsLetters }
+{}
+
+/// Repair lets no element into one that excludes it.
+pub fn keeps_free()
+    ensures { KeepsFree }
+{}
+
+/// No element comes in that isn't permitted.
+pub fn keeps_permitted()
+    ensures { KeepsPermitted }
+{}
+
+/// Allowed characters stay alone in texts, and attributes that may stand in a tag stay so.
+pub fn keeps_spellable()
+    ensures { KeepsSpellable }
+{}
+
+/// Each character that isn't white space stands after repair or is lost with a caption.
+pub fn keeps_counts()
+    ensures { KeepsCounts }
+{}
+
+/// No character, white space too, stands more often after repair than before.
+pub fn never_more()
+    ensures { NeverMore }
+{}
+
+/// After repair the children of each element are a word of what it holds.
+pub fn gives_words()
+    ensures { GivesWords }
+{}
+
+/// After repair the nodes themselves are a word, where their parent takes any number of its letters, as a fragment
+/// does.
+pub fn gives_a_word()
+    ensures { GivesAWord }
+{}
+
+/// After repair no texts are neighbours.
+pub fn joins_texts()
+    ensures { JoinsTexts }
+{}
+
+/// Settled nodes stay as they are.
+pub fn leaves_settled()
+    ensures { LeavesSettled }
+{}
+
+/// What repair leaves is settled.
+pub fn is_settling()
+    ensures { IsSettling }
+{}
+
+/// Nodes whose words are all in their languages, and in which no texts are neighbours, are settled.
+pub fn valid_are_settled()
+    ensures { ValidAreSettled }
+{}
+
+/// What repair leaves it leaves as it is.
+pub fn repairs_once()
+    ensures { RepairsOnce }
+{}
 
 /// Worked examples of the definition.
 pub fn worked_examples()
