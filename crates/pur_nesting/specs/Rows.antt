@@ -131,10 +131,10 @@ TakesTheRowsOfAFoot =
 abbrev pub PutsRunsIntoBodies : Type 0
 PutsRunsIntoBodies =
     let table = el Table (
-      space ∷ row (codes "1") ∷ space ∷ el Tbody (row (codes "2") ∷ []) ∷ row (codes "3") ∷ row (codes "4") ∷ el Caption (says (codes "c") ∷ [])
-      ∷ el Caption (says (codes "d") ∷ []) ∷ space ∷ el Col [] ∷ el Colgroup [] ∷ el Col [] ∷ [])
+    space ∷ row (codes "1") ∷ space ∷ el Tbody (row (codes "2") ∷ []) ∷ row (codes "3") ∷ row (codes "4") ∷ el Caption (says (codes "c") ∷ [])
+    ∷ el Caption (says (codes "d") ∷ []) ∷ space ∷ el Col [] ∷ el Colgroup [] ∷ el Col [] ∷ [])
     in
     (nested all table ≡ el Table (
-      space ∷ el Caption (says (codes "c") ∷ []) ∷ el Col [] ∷ el Col [] ∷ el Tbody (row (codes "1") ∷ space ∷ [])
-      ∷ el Tbody (row (codes "2") ∷ []) ∷ el Tbody (row (codes "3") ∷ row (codes "4") ∷ []) ∷ [])
+    space ∷ el Caption (says (codes "c") ∷ []) ∷ el Col [] ∷ el Col [] ∷ el Tbody (row (codes "1") ∷ space ∷ [])
+    ∷ el Tbody (row (codes "2") ∷ []) ∷ el Tbody (row (codes "3") ∷ row (codes "4") ∷ []) ∷ [])
     ) × (lost_in_nesting 0x64 all table ≡ 1)

@@ -67,7 +67,9 @@ fn as_body(alloc: Global, tbody: bool, elem: Elem) -> Result<Vec<Node>, AllocErr
         return single(alloc, elem);
     }
     let Elem {
-        attrs, children, ..
+        attrs,
+        children,
+        ..
     } = elem;
     if tbody {
         return single(

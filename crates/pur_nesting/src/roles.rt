@@ -1,6 +1,6 @@
 //! What an element is to a table, and to which of the table's parts it belongs.
 
-ghost use Rattle.std.specs.Prelude.{◌≡◌};
+ghost use Rattle.std.specs.Prelude.{◌≡◌, if◌then◌else◌};
 ghost use Rattle.pur_nesting.specs.Parts.{role_of, next, at_first};
 
 use pur_names::Element;
@@ -78,6 +78,13 @@ pub fn role_of(element: Element) -> Role
     }
 }
 
+// A part, unless one of its kind, or one that it can't stand beside, was met.
+fn unless(met: bool, part: Part, other: Part) -> Part
+    ensures { result ≡ (if met then other else part) }
+{
+    if met { other } else { part }
+}
+
 impl Met {
     /// Nothing was met.
     pub fn at_first() -> Met
@@ -100,39 +107,23 @@ impl Met {
         let mut met = *self;
         match role {
             Role::Title => {
-                met.part = if met.caption {
-                    Part::Surplus
-                } else {
-                    Part::Captions
-                };
+                met.part = unless(met.caption, Part::Captions, Part::Surplus);
                 met.caption = true;
             }
             Role::Column => {
-                met.part = if met.groups {
-                    Part::Surplus
-                } else {
-                    Part::Columns
-                };
+                met.part = unless(met.groups, Part::Columns, Part::Surplus);
                 met.columns = !met.groups;
             }
             Role::ColumnGroup => {
-                met.part = if met.columns {
-                    Part::Surplus
-                } else {
-                    Part::Columns
-                };
+                met.part = unless(met.columns, Part::Columns, Part::Surplus);
                 met.groups = !met.columns;
             }
             Role::Header => {
-                met.part = if met.head {
-                    Part::Bodies
-                } else {
-                    Part::Heads
-                };
+                met.part = unless(met.head, Part::Heads, Part::Bodies);
                 met.head = true;
             }
             Role::Footer => {
-                met.part = if met.foot { Part::Bodies } else { Part::Feet };
+                met.part = unless(met.foot, Part::Feet, Part::Bodies);
                 met.foot = true;
             }
             Role::Body | Role::Row => met.part = Part::Bodies,

@@ -165,11 +165,7 @@ pub fn is_blank(text: &str) -> bool
 }
 
 /// What stands in the place of a table, of itself and its repaired children.
-pub fn repaired_table(
-    alloc: Global,
-    permits: Permits,
-    elem: Elem,
-) -> Result<Vec<Node>, AllocError>
+pub fn repaired_table(alloc: Global, permits: Permits, elem: Elem) -> Result<Vec<Node>, AllocError>
     ensures { IfOk result (λ out. nodes_of out.items ≡ repaired_table permits (plain_elem elem.name elem.attrs) (nodes_of elem.children.items)) }
 {
     let Elem {
