@@ -1,5 +1,5 @@
 -- Where a table has bodies it has rows.
-use Rattle.std.proofs.Common.{◌≡◌, ◌<◌, ◌⊎◌, inl, inr, length, [], ◌∷◌, Bool, true, false, not, ◌&&◌, refl, ap, ◌∙◌, subst, arith}
+use Rattle.std.proofs.Common.{◌≡◌, ◌<◌, ◌⊎◌, inl, inr, length, [], ◌∷◌, Bool, true, false, not, ◌&&◌, subst, arith}
 use Rattle.std.specs.Prelude.{if◌then◌else◌}
 use Rattle.pur_text.specs.Characters.{is_blank}
 use Rattle.pur_names.specs.declared.elements.Element.TheVariants.{Tbody, Tr}
@@ -12,19 +12,17 @@ use Rattle.pur_modules.specs.Expressions.{has_text_letter}
 use Rattle.pur_models.specs.Languages.{Language}
 use Rattle.pur_models.specs.Laws.{may_be_empty}
 use Rattle.pur_models.proofs.WordLemmas.{empty_if}
-use Rattle.pur_tree.specs.Nodes.{plain_elem, bare, Nodes, no_nodes, text_first, elem_first, nodes_append, has_no_nodes}
+use Rattle.pur_tree.specs.Nodes.{bare, Nodes, no_nodes, text_first, elem_first, nodes_append, has_no_nodes}
 use Rattle.pur_tree.specs.Properties.{Holds, letters}
 use Rattle.pur_tree.specs.Words.{word_of, IsWord, HaveWords}
-use Rattle.pur_nesting.specs.declared.roles.Role.{Role}
-use Rattle.pur_nesting.specs.declared.roles.Role.TheVariants.{Title, Column, ColumnGroup, Header, Footer, Body, Row, Stranger}
 use Rattle.pur_nesting.specs.declared.roles.Part.{Part}
 use Rattle.pur_nesting.specs.declared.roles.Met.{Met}
 use Rattle.pur_nesting.specs.Parts.{role_of, same_part, next, part}
-use Rattle.pur_nesting.specs.Tables.{has_child, from_first_element, is_head_or_foot, as_body, as_bodies, run_of_rows, runs_in_bodies, of_one_kind}
-use Rattle.pur_nesting.proofs.RoleLemmas.{of_role}
-use Rattle.pur_nesting.proofs.LetterLemmas.{held_rows, no_text, at_kind}
+use Rattle.pur_nesting.specs.Tables.{has_child, from_first_element, as_body, as_bodies, run_of_rows, runs_in_bodies, of_one_kind}
+use Rattle.pur_nesting.proofs.LetterLemmas.{no_text, at_kind}
 use Rattle.pur_nesting.proofs.OneLemmas.{NoElems}
 use Rattle.pur_nesting.proofs.BlankLemmas.{Blank-letters, word-NoElems}
+use Rattle.pur_nesting.proofs.TableLemmas.{in_part, each_body}
 
 -- there is an element
 abbrev pub HasElems : Nodes → Type 0
@@ -75,33 +73,19 @@ Begins (elem_first e kids f) = Unit {0}
 pub Begins-part : (w : Part) (m : Met) (f : Nodes) → same_part w m.part ≡ false → has_no_nodes (part w m f) ≡ false → Begins (part w m f)
 Begins-part w m no_nodes p h = absurd (cc)
 Begins-part w m (text_first s f) p h = rw p (Begins-part w m f p (rw p at h))
-Begins-part w m (elem_first e kids f) p h = go (same_part w (next m (role_of e.name)).part) refl (λ k. Begins-part w (next m (role_of e.name)) f k) h
-  where
-    go : (b : Bool) → same_part w (next m (role_of e.name)).part ≡ b
-        → (same_part w (next m (role_of e.name)).part ≡ false → has_no_nodes (part w (next m (role_of e.name)) f) ≡ false → Begins (part w (next m (role_of e.name)) f))
-        → has_no_nodes (if b then elem_first e kids (part w (next m (role_of e.name)) f) else part w (next m (role_of e.name)) f) ≡ false
-        → Begins (if b then elem_first e kids (part w (next m (role_of e.name)) f) else part w (next m (role_of e.name)) f)
-    go true is r k = tt
-    go false is r k = r is k
+Begins-part w m (elem_first e kids f) p h =
+    let n : Met = next m (role_of e.name) in
+    in_part (λ g. has_no_nodes g ≡ false → Begins g) w n.part (elem_first e kids (part w n f)) (part w n f) (λ there k. tt) (λ other k. Begins-part w n f other k) h
 
 pub HasElems-as_bodies : (d : Doctype) (tbody : Bool) (f : Nodes) → Begins f → Holds (letters d) TableParts f → HaveWords d TableParts f → HasElems (as_bodies tbody f)
 HasElems-as_bodies d tbody no_nodes b h w = absurd b
 HasElems-as_bodies d tbody (text_first s f) b h w = absurd b
-HasElems-as_bodies d tbody (elem_first e kids f) b h w = HasElems-append (as_body tbody e kids) (as_bodies tbody f) (go (role_of e.name) refl tbody)
-  where
-    rows : (b : Bool) → content_held d e.name TableParts ≡ Rows → HasElems (if b then elem_first (plain_elem Tbody e.attrs) kids no_nodes else from_first_element kids)
-    rows true same = tt
-    rows false same = HasElems-from_first_element kids (HasElems-rows d kids (at_kind d (content_held d e.name TableParts) Rows kids same h.1) (subst (λ x. IsWord d x kids) same w.0))
-
-    go : (r : Role) → role_of e.name ≡ r → (b : Bool) → HasElems (if is_head_or_foot r then (if b then elem_first (plain_elem Tbody e.attrs) kids no_nodes else from_first_element kids) else elem_first e kids no_nodes)
-    go Header is b = rows b (ap (λ x. content_held d x TableParts) (of_role e.name Header is refl) ∙ (held_rows d TableParts).0)
-    go Footer is b = rows b (ap (λ x. content_held d x TableParts) (of_role e.name Footer is refl) ∙ (held_rows d TableParts).1)
-    go Title is b = tt
-    go Column is b = tt
-    go ColumnGroup is b = tt
-    go Body is b = tt
-    go Row is b = tt
-    go Stranger is b = tt
+HasElems-as_bodies d tbody (elem_first e kids f) b h w =
+    HasElems-append (as_body tbody e kids) (as_bodies tbody f) (
+      each_body HasElems d tbody e kids (λ rows. tt)
+          (λ rows. HasElems-from_first_element kids (HasElems-rows d kids (at_kind d (content_held d e.name TableParts) Rows kids rows h.1) (subst (λ x. IsWord d x kids) rows w.0)))
+          (λ other. tt)
+    )
 
 HasElems-runs : (f : Nodes) → HasElems f → HasElems (runs_in_bodies false f)
 HasElems-runs no_nodes s = s

@@ -1,6 +1,7 @@
 -- Words through the repair of a table's parts.
 use Rattle.std.proofs.Common.{◌≡◌, [], ◌∷◌, Bool, true, false, refl, ap, sym, ◌∙◌, subst, arith}
 use Rattle.std.specs.Prelude.{if◌then◌else◌}
+use Rattle.pur_laws.proofs.Truth.{either}
 use Rattle.pur_names.specs.declared.elements.Element.{Element}
 use Rattle.pur_names.specs.declared.elements.Element.TheVariants.{Table, Tbody, Tr}
 use Rattle.pur_names.specs.Elements.{same_element}
@@ -11,19 +12,17 @@ use Rattle.pur_modules.specs.declared.kinds.Doctype.{Doctype}
 use Rattle.pur_modules.specs.Contents.{content_held}
 use Rattle.pur_modules.specs.Expressions.{has_text_letter}
 use Rattle.pur_models.proofs.WordLemmas.{some_letters}
-use Rattle.pur_tree.specs.Nodes.{PlainElem, plain_elem, bare, Nodes, no_nodes, text_first, elem_first, nodes_append}
+use Rattle.pur_tree.specs.Nodes.{PlainElem, bare, Nodes, no_nodes, text_first, elem_first, nodes_append}
 use Rattle.pur_tree.specs.Properties.{Holds, letters}
 use Rattle.pur_tree.specs.Words.{word_of, IsWord, HaveWords}
 use Rattle.pur_nesting.specs.declared.permits.Permits.{Permits}
-use Rattle.pur_nesting.specs.declared.roles.Role.{Role}
-use Rattle.pur_nesting.specs.declared.roles.Role.TheVariants.{Title, Column, ColumnGroup, Header, Footer, Body, Row, Stranger}
 use Rattle.pur_nesting.specs.declared.roles.Part.{Part}
 use Rattle.pur_nesting.specs.declared.roles.Met.{Met}
 use Rattle.pur_nesting.specs.Parts.{role_of, same_part, next, part}
-use Rattle.pur_nesting.specs.Tables.{has_child, from_first_element, is_head_or_foot, as_body, as_bodies, run_of_rows, runs_in_bodies, of_one_kind}
-use Rattle.pur_nesting.proofs.RoleLemmas.{of_role}
+use Rattle.pur_nesting.specs.Tables.{has_child, from_first_element, as_body, as_bodies, run_of_rows, runs_in_bodies, of_one_kind}
 use Rattle.pur_nesting.proofs.HoldsLemmas.{Holds-run_of_rows}
 use Rattle.pur_nesting.proofs.LetterLemmas.{held_table, held_rows, held_row, only_rows, at_kind, letters_stay}
+use Rattle.pur_nesting.proofs.TableLemmas.{each_body}
 use Rattle.pur_nesting.proofs.WordLemmas.{letters_word}
 
 pub HaveWords-at : (d : Doctype) (k l : Content) (f : Nodes) → k ≡ l → HaveWords d k f → HaveWords d l f
@@ -39,17 +38,12 @@ HaveWords-append d k (elem_first e kids f) g h i = (h.0, h.1, HaveWords-append d
 
 pub HaveWords-part : (d : Doctype) (k : Content) (w : Part) (m : Met) (f : Nodes) → HaveWords d k f → HaveWords d k (part w m f)
 HaveWords-part d k w m no_nodes h = tt
-HaveWords-part d k w m (text_first s f) h = go (same_part w m.part) (HaveWords-part d k w m f h)
-  where
-    go : (b : Bool) → HaveWords d k (part w m f) → HaveWords d k (if b then text_first s (part w m f) else part w m f)
-    go true r = r
-    go false r = r
-HaveWords-part d k w m (elem_first e kids f) h = go (same_part w (next m (role_of e.name)).part) (HaveWords-part d k w (next m (role_of e.name)) f h.2)
-  where
-    go : (b : Bool) → HaveWords d k (part w (next m (role_of e.name)) f)
-        → HaveWords d k (if b then elem_first e kids (part w (next m (role_of e.name)) f) else part w (next m (role_of e.name)) f)
-    go true r = (h.0, h.1, r)
-    go false r = r
+HaveWords-part d k w m (text_first s f) h =
+    let rest = HaveWords-part d k w m f h in either (HaveWords d k) (same_part w m.part) (text_first s (part w m f)) (part w m f) rest rest
+HaveWords-part d k w m (elem_first e kids f) h =
+    let n : Met = next m (role_of e.name) in
+    let rest = HaveWords-part d k w n f h.2 in
+    either (HaveWords d k) (same_part w n.part) (elem_first e kids (part w n f)) (part w n f) (h.0, h.1, rest) rest
 
 HaveWords-from_first_element : (d : Doctype) (k : Content) (f : Nodes) → HaveWords d k f → HaveWords d k (from_first_element f)
 HaveWords-from_first_element d k no_nodes h = tt
@@ -84,26 +78,14 @@ HaveWords-run_of_rows d (elem_first e kids f) h = go (same_element e.name Tr) re
 
 HaveWords-as_body : (d : Doctype) (tbody : Bool) (e : PlainElem) (kids : Nodes) → Holds (letters d) (content_held d e.name TableParts) kids
     → IsWord d (content_held d e.name TableParts) kids → HaveWords d (content_held d e.name TableParts) kids → HaveWords d TableParts (as_body tbody e kids)
-HaveWords-as_body d tbody e kids l w h = go (role_of e.name) refl tbody
-  where
-    rows : (b : Bool) → content_held d e.name TableParts ≡ Rows → HaveWords d TableParts (if b then elem_first (plain_elem Tbody e.attrs) kids no_nodes else from_first_element kids)
-    rows true same = (
-      IsWord-at d (content_held d e.name TableParts) (content_held d Tbody TableParts) kids (same ∙ sym (held_rows d TableParts).2) w,
-      HaveWords-at d (content_held d e.name TableParts) (content_held d Tbody TableParts) kids (same ∙ sym (held_rows d TableParts).2) h,
-      tt,
-    )
-    rows false same = HaveWords-from_first_element d TableParts kids
-        (HaveWords-rows d kids (at_kind d (content_held d e.name TableParts) Rows kids same l) (HaveWords-at d (content_held d e.name TableParts) Rows kids same h))
-
-    go : (r : Role) → role_of e.name ≡ r → (b : Bool) → HaveWords d TableParts (if is_head_or_foot r then (if b then elem_first (plain_elem Tbody e.attrs) kids no_nodes else from_first_element kids) else elem_first e kids no_nodes)
-    go Header is b = rows b (ap (λ x. content_held d x TableParts) (of_role e.name Header is refl) ∙ (held_rows d TableParts).0)
-    go Footer is b = rows b (ap (λ x. content_held d x TableParts) (of_role e.name Footer is refl) ∙ (held_rows d TableParts).1)
-    go Title is b = (w, h, tt)
-    go Column is b = (w, h, tt)
-    go ColumnGroup is b = (w, h, tt)
-    go Body is b = (w, h, tt)
-    go Row is b = (w, h, tt)
-    go Stranger is b = (w, h, tt)
+HaveWords-as_body d tbody e kids l w h =
+    each_body (HaveWords d TableParts) d tbody e kids (
+      λ rows. let same : content_held d e.name TableParts ≡ content_held d Tbody TableParts = rows ∙ sym (held_rows d TableParts).2 in
+          (IsWord-at d _ _ kids same w, HaveWords-at d _ _ kids same h, tt)
+    ) (
+      λ rows. HaveWords-from_first_element d TableParts kids
+          (HaveWords-rows d kids (at_kind d (content_held d e.name TableParts) Rows kids rows l) (HaveWords-at d (content_held d e.name TableParts) Rows kids rows h))
+    ) (λ other. (w, h, tt))
 
 pub HaveWords-as_bodies : (d : Doctype) (tbody : Bool) (f : Nodes) → Holds (letters d) TableParts f → HaveWords d TableParts f → HaveWords d TableParts (as_bodies tbody f)
 HaveWords-as_bodies d tbody no_nodes l h = tt

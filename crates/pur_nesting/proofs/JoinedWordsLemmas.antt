@@ -30,7 +30,7 @@ use Rattle.pur_nesting.proofs.WordLemmas.{letters_word, word_of_element}
 use Rattle.pur_nesting.proofs.HaveWordsLemmas.{HaveWords-at, HaveWords-append}
 use Rattle.pur_nesting.proofs.TableHasWordsLemmas.{HaveWords-repaired_table}
 
-pub HaveWords-repair : (d : Doctype) (p : Permits) (k : Content) (e : PlainElem) (kids : Nodes) → Holds (letters d) (content_held d e.name k) kids
+HaveWords-repair : (d : Doctype) (p : Permits) (k : Content) (e : PlainElem) (kids : Nodes) → Holds (letters d) (content_held d e.name k) kids
     → HaveWords d (content_held d e.name k) kids → HaveWords d k (repair p e kids)
 HaveWords-repair d p k e kids l h = go (same_element e.name Table) refl (vanishes e.name kids) refl
   where
@@ -42,7 +42,7 @@ HaveWords-repair d p k e kids l h = go (same_element e.name Table) refl (vanishe
     go false is true gone = tt
     go false is false gone = (word_of_element d k e.name kids is gone l, h, tt)
 
-pub HaveWords-walk : (d : Doctype) (p : Permits) (k : Content) (f : Nodes) → Holds (letters d) k f → HaveWords d k (walk (repair p) f)
+HaveWords-walk : (d : Doctype) (p : Permits) (k : Content) (f : Nodes) → Holds (letters d) k f → HaveWords d k (walk (repair p) f)
 HaveWords-walk d p k no_nodes l = tt
 HaveWords-walk d p k (text_first s f) l = HaveWords-walk d p k f l.1
 HaveWords-walk d p k (elem_first e kids f) l =

@@ -44,7 +44,7 @@ body_letter : (d : Doctype) → is_letter d TableParts (Elem Tbody) ≡ true
 unfolding child_letters
 body_letter d = refl
 
-pub row_letter : (d : Doctype) → (is_letter d Rows (Elem Tr) ≡ true) × (is_letter d TableParts (Elem Tr) ≡ true)
+row_letter : (d : Doctype) → (is_letter d Rows (Elem Tr) ≡ true) × (is_letter d TableParts (Elem Tr) ≡ true)
 unfolding child_letters
 row_letter d = (refl, refl)
 
@@ -84,7 +84,7 @@ space_anywhere : (d : Doctype) (k : Content) (s : List ℕ) → is_blank s ≡ t
 space_anywhere d k s h = rw h refl
 
 -- rows may stand in the table itself
-pub rows_in_table : (d : Doctype) (f : Nodes) → Holds (letters d) Rows f → Holds (letters d) TableParts f
+rows_in_table : (d : Doctype) (f : Nodes) → Holds (letters d) Rows f → Holds (letters d) TableParts f
 rows_in_table d no_nodes h = tt
 rows_in_table d (text_first s f) h = (space_anywhere d TableParts s (space_in d Rows s (no_text d).0 h.0), rows_in_table d f h.1)
 rows_in_table d (elem_first e kids f) h =

@@ -23,7 +23,7 @@ use Rattle.pur_nesting.proofs.BlankLemmas.{Blank, Blank-letters}
 abbrev pub needs : Element → Bool
 needs e = nat_lt 0 (length (needed_by e))
 
-pub implied : (a b : Bool) → (not a || b) ≡ true → a ≡ true → b ≡ true
+implied : (a b : Bool) → (not a || b) ≡ true → a ≡ true → b ≡ true
 implied true b h k = h
 implied false b h k = absurd (cc)
 
@@ -38,7 +38,7 @@ all_need_what_they_hold : (d : Doctype) (k : Content) → list_all (needs_what_i
 unfolding content_held child_letters has_text_letter
 all_need_what_they_hold d k = refl
 
-pub needed_letters : (d : Doctype) (k : Content) (e : Element) → needs e ≡ true
+needed_letters : (d : Doctype) (k : Content) (e : Element) → needs e ≡ true
     → (has_text_letter d (content_held d e k) ≡ false) × (may_be_empty (content_held d e k) ≡ false)
     × ((x : Element) → is_letter d (content_held d e k) (Elem x) ≡ true → is_among (needed_by e) x ≡ true)
 needed_letters d k e n =
@@ -50,7 +50,7 @@ needed_letters d k e n =
       λ x. implied (is_letter d (content_held d e k) (Elem x)) (is_among (needed_by e) x) (each_element (λ x. not (is_letter d (content_held d e k) (Elem x)) || is_among (needed_by e) x) facts.1 x),
     )
 
-pub NoElems-needed : (es : List Element) (d : Doctype) (k : Content) (f : Nodes) → ((x : Element) → is_letter d k (Elem x) ≡ true → is_among es x ≡ true)
+NoElems-needed : (es : List Element) (d : Doctype) (k : Content) (f : Nodes) → ((x : Element) → is_letter d k (Elem x) ≡ true → is_among es x ≡ true)
     → has_child es f ≡ false → Holds (letters d) k f → NoElems f
 NoElems-needed es d k no_nodes only none h = tt
 NoElems-needed es d k (text_first s f) only none h = NoElems-needed es d k f only none h.1

@@ -3,15 +3,16 @@ use Rattle.std.proofs.Common.{◌≡◌, ℕ, ◌+◌, ◌≤◌, Bool, true, fa
 use Rattle.std.specs.Prelude.{if◌then◌else◌}
 use Rattle.pur_names.specs.declared.elements.Element.TheVariants.{P, Table, Tbody}
 use Rattle.pur_names.specs.Elements.{same_element}
-use Rattle.pur_tree.specs.Nodes.{PlainElem, plain_elem, bare, Nodes, no_nodes, text_first, elem_first, has_no_nodes}
+use Rattle.pur_tree.specs.Nodes.{PlainElem, plain_elem, bare, Nodes, no_nodes, text_first, elem_first}
 use Rattle.pur_tree.specs.Walks.{walk, count_in_text}
 use Rattle.pur_tree.proofs.WalkLemmas.{count_in_text-append, count_in_text-joined_nodes}
 use Rattle.pur_nesting.specs.declared.permits.Permits.{Permits}
 use Rattle.pur_nesting.specs.declared.roles.Part.TheVariants.{Lead, Captions, Columns, Heads, Feet, Bodies}
 use Rattle.pur_nesting.specs.Parts.{role_of, at_first}
-use Rattle.pur_nesting.specs.Tables.{are_blank, from_first_element, is_head_or_foot, as_body, as_bodies, table, without_bodies, parts_of, repaired_table}
+use Rattle.pur_nesting.specs.Tables.{are_blank, from_first_element, is_head_or_foot, as_body, as_bodies, without_bodies, parts_of, repaired_table}
 use Rattle.pur_nesting.specs.Nesting.{vanishes, repair, nested}
 use Rattle.pur_nesting.proofs.PartCountLemmas.{count_in_parts, parts_have_all, count_in_text-table}
+use Rattle.pur_nesting.proofs.TableLemmas.{each_table}
 
 less-from_first_element : (c : ℕ) (f : Nodes) → count_in_text c (from_first_element f) ≤ count_in_text c f
 less-from_first_element c no_nodes = omega arith
@@ -42,33 +43,20 @@ less-without_bodies c paragraph (elem_first e kids f) = go (paragraph && not (ar
     go false = omega arith
 
 less-repaired_table : (c : ℕ) (p : Permits) (e : PlainElem) (kids : Nodes) → count_in_text c (repaired_table p e kids) ≤ count_in_text c kids
-less-repaired_table c p e kids = go (not (has_no_nodes (parts_of kids Bodies))) (not (has_no_nodes (parts_of kids Feet))) (not (has_no_nodes (parts_of kids Heads)))
+less-repaired_table c p e kids =
+    each_table (λ made. count_in_text c made ≤ count_in_text c kids) p e kids (
+      λ x. let t = count_in_text-table c e (parts_of kids Lead) (parts_of kids Captions) (parts_of kids Columns) (parts_of kids Heads) (parts_of kids Feet) (as_bodies p.tbody (parts_of kids Bodies)) in
+          let b = less-as_bodies c p.tbody (parts_of kids Bodies) in omega (arith, t, b, all)
+    ) (
+      λ x y. let t = count_in_text-table c e (parts_of kids Lead) (parts_of kids Captions) (parts_of kids Columns) (parts_of kids Heads) no_nodes (as_bodies p.tbody (parts_of kids Feet)) in
+          let b = less-as_bodies c p.tbody (parts_of kids Feet) in omega (arith, t, b, all)
+    ) (
+      λ x y z. let t = count_in_text-table c e (parts_of kids Lead) (parts_of kids Captions) (parts_of kids Columns) no_nodes no_nodes (as_bodies p.tbody (parts_of kids Heads)) in
+          let b = less-as_bodies c p.tbody (parts_of kids Heads) in omega (arith, t, b, all)
+    ) (λ x y z. let b = less-without_bodies c p.paragraph (parts_of kids Captions) in omega (arith, b, all))
   where
     all : count_in_parts c (parts_of kids) ≡ count_in_text c kids
     all = parts_have_all c at_first kids
-
-    go : (x y z : Bool) → count_in_text c (if x
-        then table e (parts_of kids Lead) (parts_of kids Captions) (parts_of kids Columns) (parts_of kids Heads) (parts_of kids Feet) (as_bodies p.tbody (parts_of kids Bodies))
-        else (if y
-        then table e (parts_of kids Lead) (parts_of kids Captions) (parts_of kids Columns) (parts_of kids Heads) no_nodes (as_bodies p.tbody (parts_of kids Feet))
-        else (if z
-        then table e (parts_of kids Lead) (parts_of kids Captions) (parts_of kids Columns) no_nodes no_nodes (as_bodies p.tbody (parts_of kids Heads))
-        else without_bodies p.paragraph (parts_of kids Captions)))) ≤ count_in_text c kids
-    go true y z =
-        let t = count_in_text-table c e (parts_of kids Lead) (parts_of kids Captions) (parts_of kids Columns) (parts_of kids Heads) (parts_of kids Feet) (as_bodies p.tbody (parts_of kids Bodies)) in
-        let b = less-as_bodies c p.tbody (parts_of kids Bodies) in
-        omega (arith, t, b, all)
-    go false true z =
-        let t = count_in_text-table c e (parts_of kids Lead) (parts_of kids Captions) (parts_of kids Columns) (parts_of kids Heads) no_nodes (as_bodies p.tbody (parts_of kids Feet)) in
-        let b = less-as_bodies c p.tbody (parts_of kids Feet) in
-        omega (arith, t, b, all)
-    go false false true =
-        let t = count_in_text-table c e (parts_of kids Lead) (parts_of kids Captions) (parts_of kids Columns) no_nodes no_nodes (as_bodies p.tbody (parts_of kids Heads)) in
-        let b = less-as_bodies c p.tbody (parts_of kids Heads) in
-        omega (arith, t, b, all)
-    go false false false =
-        let b = less-without_bodies c p.paragraph (parts_of kids Captions) in
-        omega (arith, b, all)
 
 less-repair : (c : ℕ) (p : Permits) (e : PlainElem) (kids : Nodes) → count_in_text c (repair p e kids) ≤ count_in_text c kids
 less-repair c p e kids = go (same_element e.name Table) (vanishes e.name kids)

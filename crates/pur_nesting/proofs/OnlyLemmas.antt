@@ -9,18 +9,19 @@ use Rattle.pur_modules.specs.declared.kinds.Content.TheVariants.{TableParts, Row
 use Rattle.pur_modules.specs.declared.kinds.Doctype.{Doctype}
 use Rattle.pur_modules.specs.Contents.{content_held}
 use Rattle.pur_modules.specs.Groups.{is_among}
-use Rattle.pur_tree.specs.Nodes.{PlainElem, plain_elem, bare, Nodes, no_nodes, text_first, elem_first, nodes_append}
+use Rattle.pur_tree.specs.Nodes.{PlainElem, bare, Nodes, no_nodes, text_first, elem_first, nodes_append}
 use Rattle.pur_tree.specs.Properties.{Holds, letters}
 use Rattle.pur_nesting.specs.declared.roles.Role.{Role}
-use Rattle.pur_nesting.specs.declared.roles.Role.TheVariants.{Title, Column, ColumnGroup, Header, Footer, Body, Row, Stranger}
+use Rattle.pur_nesting.specs.declared.roles.Role.TheVariants.{Title, Header, Footer, Body, Row, Stranger}
 use Rattle.pur_nesting.specs.declared.roles.Part.{Part}
 use Rattle.pur_nesting.specs.declared.roles.Part.TheVariants.{Captions, Heads, Feet, Bodies}
 use Rattle.pur_nesting.specs.Parts.{role_of, same_role}
 use Rattle.pur_nesting.specs.Tables.{has_child, from_first_element, is_head_or_foot, as_body, as_bodies, run_of_rows, runs_in_bodies, of_one_kind}
 use Rattle.pur_nesting.proofs.RoleLemmas.{element_with, of_role, may_hold}
 use Rattle.pur_nesting.proofs.HoldsLemmas.{Fits}
-use Rattle.pur_nesting.proofs.LetterLemmas.{held_rows, only_rows, at_kind}
+use Rattle.pur_nesting.proofs.LetterLemmas.{only_rows, at_kind}
 use Rattle.pur_nesting.proofs.OrderLemmas.{Only}
+use Rattle.pur_nesting.proofs.TableLemmas.{each_body}
 
 Only-append : (es : List Element) (f g : Nodes) → Only es f → Only es g → Only es (nodes_append f g)
 Only-append es no_nodes g o p = p
@@ -69,24 +70,23 @@ Only-from_first_element es no_nodes o = tt
 Only-from_first_element es (text_first s f) o = Only-from_first_element es f o
 Only-from_first_element es (elem_first e kids f) o = o
 
+-- what may stand as a body, and is no head and no foot, is a body or a row
+body_or_row : (e : Element) → may_hold Bodies (role_of e) ≡ true → is_head_or_foot (role_of e) ≡ false → is_among (Tbody ∷ Tr ∷ []) e ≡ true
+body_or_row e fits other = go (role_of e) refl fits other
+  where
+    go : (r : Role) → role_of e ≡ r → may_hold Bodies r ≡ true → is_head_or_foot r ≡ false → is_among (Tbody ∷ Tr ∷ []) e ≡ true
+    go Body is k h = ap (is_among (Tbody ∷ Tr ∷ [])) (of_role e Body is refl)
+    go Row is k h = ap (is_among (Tbody ∷ Tr ∷ [])) (of_role e Row is refl)
+    go Header is k h = absurd (cc)
+    go Footer is k h = absurd (cc)
+    go r is k h = absurd (cc)
+
 Only-as_body : (d : Doctype) (tbody : Bool) (e : PlainElem) (kids : Nodes) → may_hold Bodies (role_of e.name) ≡ true → Holds (letters d) (content_held d e.name TableParts) kids
     → Only (Tbody ∷ Tr ∷ []) (as_body tbody e kids)
-Only-as_body d tbody e kids fits h = go (role_of e.name) refl fits tbody
-  where
-    rows : (b : Bool) → Holds (letters d) Rows kids → Only (Tbody ∷ Tr ∷ []) (if b then elem_first (plain_elem Tbody e.attrs) kids no_nodes else from_first_element kids)
-    rows true l = (refl, tt)
-    rows false l = Only-from_first_element (Tbody ∷ Tr ∷ []) kids (Only-rows d kids l)
-
-    go : (r : Role) → role_of e.name ≡ r → may_hold Bodies r ≡ true → (b : Bool)
-        → Only (Tbody ∷ Tr ∷ []) (if is_head_or_foot r then (if b then elem_first (plain_elem Tbody e.attrs) kids no_nodes else from_first_element kids) else elem_first e kids no_nodes)
-    go Header is k b = rows b (at_kind d (content_held d e.name TableParts) Rows kids (ap (λ x. content_held d x TableParts) (of_role e.name Header is refl) ∙ (held_rows d TableParts).0) h)
-    go Footer is k b = rows b (at_kind d (content_held d e.name TableParts) Rows kids (ap (λ x. content_held d x TableParts) (of_role e.name Footer is refl) ∙ (held_rows d TableParts).1) h)
-    go Body is k b = (ap (is_among (Tbody ∷ Tr ∷ [])) (of_role e.name Body is refl), tt)
-    go Row is k b = (ap (is_among (Tbody ∷ Tr ∷ [])) (of_role e.name Row is refl), tt)
-    go Title is k b = absurd (cc)
-    go Column is k b = absurd (cc)
-    go ColumnGroup is k b = absurd (cc)
-    go Stranger is k b = absurd (cc)
+Only-as_body d tbody e kids fits h =
+    each_body (Only (Tbody ∷ Tr ∷ [])) d tbody e kids (λ rows. (refl, tt))
+    (λ rows. Only-from_first_element (Tbody ∷ Tr ∷ []) kids (Only-rows d kids (at_kind d (content_held d e.name TableParts) Rows kids rows h)))
+    (λ other. (body_or_row e.name fits other, tt))
 
 pub Only-as_bodies : (d : Doctype) (tbody : Bool) (f : Nodes) → Fits Bodies f → Holds (letters d) TableParts f → Only (Tbody ∷ Tr ∷ []) (as_bodies tbody f)
 Only-as_bodies d tbody no_nodes fits h = tt

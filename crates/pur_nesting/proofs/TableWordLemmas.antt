@@ -17,7 +17,7 @@ use Rattle.pur_nesting.proofs.BlankLemmas.{Blank, word-NoElems}
 use Rattle.pur_nesting.proofs.OrderLemmas.{Only}
 use Rattle.pur_nesting.proofs.BodyLemmas.{HasElems, word-HasElems}
 
-pub word_of-append : (t : Bool) (f g : Nodes) → word_of t (nodes_append f g) ≡ word_of t f ++ word_of t g
+word_of-append : (t : Bool) (f g : Nodes) → word_of t (nodes_append f g) ≡ word_of t f ++ word_of t g
 word_of-append t no_nodes g = refl
 word_of-append t (text_first s f) g = go (not t && is_blank s) (word_of-append t f g)
   where
