@@ -4,7 +4,7 @@ use Rattle.std.specs.Prelude.{if◌then◌else◌}
 use Rattle.pur_names.specs.declared.elements.Element.{Element}
 use Rattle.pur_names.specs.declared.elements.Element.TheVariants.{Caption, Col, Colgroup, P, Table, Tbody, Tfoot, Thead, Tr}
 use Rattle.pur_modules.specs.declared.kinds.Content.{Content}
-use Rattle.pur_modules.specs.declared.kinds.Content.TheVariants.{Flow, TableParts}
+use Rattle.pur_modules.specs.declared.kinds.Content.TheVariants.{TableParts}
 use Rattle.pur_modules.specs.declared.kinds.Doctype.{Doctype}
 use Rattle.pur_modules.specs.Contents.{content_held}
 use Rattle.pur_models.specs.Laws.{IsTableWord}
@@ -18,28 +18,17 @@ use Rattle.pur_nesting.specs.declared.roles.Part.{Part}
 use Rattle.pur_nesting.specs.declared.roles.Part.TheVariants.{Lead, Captions, Columns, Heads, Feet, Bodies}
 use Rattle.pur_nesting.specs.Parts.{at_first}
 use Rattle.pur_nesting.specs.Tables.{are_blank, as_bodies, of_one_kind, table, without_bodies, parts_of, repaired_table}
-use Rattle.pur_nesting.proofs.HoldsLemmas.{Fits, Fits-part, is_caption, Holds-part, Holds-as_bodies, Holds-of_one_kind}
-use Rattle.pur_nesting.proofs.LetterLemmas.{held_table, held_inline, no_text, at_kind, letters_stay}
+use Rattle.pur_nesting.proofs.HoldsLemmas.{Fits, Fits-part, is_caption, Holds-part}
+use Rattle.pur_nesting.proofs.LetterLemmas.{held_table, held_inline, no_text, letters_of_bodies, letters_of_one_kind}
 use Rattle.pur_nesting.proofs.OneLemmas.{NoElems, AtMostOne, AtMostOne-part}
-use Rattle.pur_nesting.proofs.BlankLemmas.{Blank, Blank-letters, NoElems-lead}
+use Rattle.pur_nesting.proofs.BlankLemmas.{Blank, Blank-letters, NoElems-lead, HasElems}
 use Rattle.pur_nesting.proofs.OrderLemmas.{Only}
 use Rattle.pur_nesting.proofs.TableLemmas.{each_table}
 use Rattle.pur_nesting.proofs.OnlyLemmas.{Only-role, only_Title, only_Header, only_Footer, Only-as_bodies, Fits-heads, Fits-feet, bodies_alike}
 use Rattle.pur_nesting.proofs.ColumnLemmas.{columns_alike}
-use Rattle.pur_nesting.proofs.BodyLemmas.{HasElems, Begins, Begins-part, HasElems-as_bodies, HasElems-of_one_kind}
+use Rattle.pur_nesting.proofs.BodyLemmas.{Begins, Begins-part, HasElems-as_bodies, HasElems-of_one_kind}
 use Rattle.pur_nesting.proofs.TableWordLemmas.{table_word}
 use Rattle.pur_nesting.proofs.HaveWordsLemmas.{HaveWords-at, IsWord-at, HaveWords-append, HaveWords-part, HaveWords-as_bodies, HaveWords-of_one_kind}
-
--- the letters of a table's bodies of one kind
-letters_of_one_kind : (d : Doctype) (p : Permits) (f : Nodes) → Holds (letters d) TableParts f → Holds (letters d) TableParts (of_one_kind f)
-letters_of_one_kind d p f l =
-    at_kind d (content_held d Table Flow) TableParts (of_one_kind f) (held_table d Flow)
-    (Holds-of_one_kind (letters d) p (letters_stay d p) Flow f (at_kind d TableParts (content_held d Table Flow) f (sym (held_table d Flow)) l))
-
-letters_of_bodies : (d : Doctype) (p : Permits) (f : Nodes) → Holds (letters d) TableParts f → Holds (letters d) TableParts (as_bodies p.tbody f)
-letters_of_bodies d p f l =
-    at_kind d (content_held d Table Flow) TableParts (as_bodies p.tbody f) (held_table d Flow)
-    (Holds-as_bodies (letters d) p (letters_stay d p) Flow f (at_kind d TableParts (content_held d Table Flow) f (sym (held_table d Flow)) l))
 
 -- the nodes may stand in a table, and have words
 abbrev IsGood : Doctype → Nodes → Type 0

@@ -13,9 +13,8 @@ use Rattle.pur_tree.specs.Nodes.{Nodes, no_nodes, text_first, elem_first, nodes_
 use Rattle.pur_tree.specs.Properties.{letters}
 use Rattle.pur_tree.specs.Words.{word_of}
 use Rattle.pur_nesting.proofs.OneLemmas.{NoElems, AtMostOne}
-use Rattle.pur_nesting.proofs.BlankLemmas.{Blank, word-NoElems}
+use Rattle.pur_nesting.proofs.BlankLemmas.{Blank, word-NoElems, HasElems, word-HasElems}
 use Rattle.pur_nesting.proofs.OrderLemmas.{Only}
-use Rattle.pur_nesting.proofs.BodyLemmas.{HasElems, word-HasElems}
 
 word_of-append : (t : Bool) (f g : Nodes) → word_of t (nodes_append f g) ≡ word_of t f ++ word_of t g
 word_of-append t no_nodes g = refl

@@ -1,5 +1,5 @@
 -- Where an element stays its children are a word of what it holds.
-use Rattle.std.proofs.Common.{◌≡◌, ◌<◌, length, List, [], ◌∷◌, Bool, true, false, not, ◌&&◌, ◌||◌, refl, sym, subst, arith}
+use Rattle.std.proofs.Common.{◌≡◌, List, [], ◌∷◌, Bool, true, false, not, ◌&&◌, ◌||◌, refl, sym, subst}
 use Rattle.std.specs.Prelude.{if◌then◌else◌}
 use Rattle.std.specs.List.{list_all}
 use Rattle.std.proofs.lemmas.Bool.{and_from, and_parts}
@@ -24,6 +24,7 @@ use Rattle.pur_tree.specs.Words.{word_of, IsWord}
 use Rattle.pur_nesting.specs.Tables.{has_child}
 use Rattle.pur_nesting.specs.Nesting.{needed_by, vanishes}
 use Rattle.pur_nesting.proofs.LetterLemmas.{space_in}
+use Rattle.pur_nesting.proofs.BlankLemmas.{word-HasElems, child-HasElems}
 use Rattle.pur_nesting.proofs.NeededLemmas.{needs}
 use Rattle.pur_modules.proofs.KindLaws.{each_kind}
 
@@ -37,16 +38,6 @@ letters_word d k (text_first s f) h = go (has_text_letter d k) refl (letters_wor
     go true is r = and_from _ _ is r
     go false is r = let space = space_in d k s is h.0 in rw space r
 letters_word d k (elem_first e kids f) h = and_from _ _ h.0 (letters_word d k f h.2)
-
--- a child that is there is a letter of the word
-some_child : (es : List Element) (t : Bool) (f : Nodes) → has_child es f ≡ true → 0 < length (word_of t f)
-some_child es t no_nodes h = absurd (cc)
-some_child es t (text_first s f) h = go (not t && is_blank s) (some_child es t f h)
-  where
-    go : (b : Bool) → 0 < length (word_of t f) → 0 < length (if b then word_of t f else (Text ∷ word_of t f))
-    go true r = r
-    go false r = omega arith
-some_child es t (elem_first e kids f) h = omega arith
 
 -- what an element holds takes any number, or nothing; or is a table's parts; or the element needs a child
 abbrev kind_is_known : Doctype → Content → Element → Bool
@@ -95,7 +86,7 @@ word_of_element d k e kids no_table stays h =
         (word_of_nothing d (word_of (has_text_letter d (content_held d e k)) kids) (subst (λ x. list_all (is_letter d x) (word_of (has_text_letter d (content_held d e k)) kids) ≡ true) same all))
     go false ae false be true ce true ne known =
         let there : has_child (needed_by e) kids ≡ true = not_gone (has_child (needed_by e) kids) (rw ne at stays) in
-        some_letters d (content_held d e k) (word_of (has_text_letter d (content_held d e k)) kids) ce (some_child (needed_by e) (has_text_letter d (content_held d e k)) kids there) all
+        some_letters d (content_held d e k) word ce (word-HasElems (has_text_letter d (content_held d e k)) kids (child-HasElems (needed_by e) kids there)) all
       where
         not_gone : (b : Bool) → (true && not b) ≡ false → b ≡ true
         not_gone true h = refl
