@@ -10,9 +10,9 @@ use Rattle.pur_tree.specs.Nodes.{Nodes, no_nodes, text_first, elem_first}
 use Rattle.pur_tree.specs.Places.{Place, inside, level_limit, rise}
 use Rattle.pur_tree.specs.Properties.{Holds, levels, soundness}
 use Rattle.pur_tree.specs.Walks.{walk}
-use Rattle.pur_tree.proofs.HoldsLemmas.{IsForest-walk}
+use Rattle.pur_tree.proofs.HoldsLemmas.{IsForest-joined_nodes, IsForest-walk}
 use Rattle.pur_nesting.specs.declared.permits.Permits.{Permits}
-use Rattle.pur_nesting.specs.Nesting.{repair}
+use Rattle.pur_nesting.specs.Nesting.{repair, nested}
 use Rattle.pur_nesting.specs.Private.Keeping.{StaysInRepair}
 use Rattle.pur_nesting.proofs.HoldsLemmas.{Holds-repair}
 
@@ -76,3 +76,7 @@ soundness_stays p = record {
 -- where each element of a forest is repaired, a forest stays
 pub repaired_forest : (p : Permits) (f : Nodes) → IsForest f → IsForest (walk (repair p) f)
 repaired_forest p f h = IsForest-walk (repair p) (Holds-repair (levels level_limit) p (levels_stay level_limit p)) (Holds-repair soundness p (soundness_stays p)) f h
+
+-- and where all are, and texts are joined
+pub nested_forest : (p : Permits) (f : Nodes) → IsForest f → IsForest (nested p f)
+nested_forest p f h = IsForest-joined_nodes (walk (repair p) f) (repaired_forest p f h)

@@ -6,6 +6,7 @@ use Rattle.pur_names.specs.declared.elements.Element.TheVariants.{P, Tbody}
 use Rattle.pur_modules.specs.declared.kinds.Content.{Content}
 use Rattle.pur_modules.specs.declared.kinds.Doctype.{Doctype}
 use Rattle.pur_models.specs.Laws.{takes_any_number}
+use Rattle.pur_tree.specs.Forests.{IsForest}
 use Rattle.pur_tree.specs.Nodes.{Nodes, is_joined}
 use Rattle.pur_tree.specs.Properties.{Holds, letters, free, permitted}
 use Rattle.pur_tree.specs.Spelling.{is_spellable}
@@ -79,3 +80,7 @@ ValidAreSettled = (doctype : Doctype) (content : Content) (nodes : Nodes) → Is
 abbrev pub RepairsOnce : Type 0
 RepairsOnce = (doctype : Doctype) (p : Permits) (content : Content) (nodes : Nodes) → AreLetters doctype content nodes
     → nested p (nested p nodes) ≡ nested p nodes
+
+-- what every forest keeps: no level passes the limit, no text is empty, and EMPTY elements have no children
+abbrev pub KeepsForests : Type 0
+KeepsForests = (p : Permits) (nodes : Nodes) → IsForest nodes → IsForest (nested p nodes)

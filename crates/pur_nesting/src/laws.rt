@@ -1,6 +1,6 @@
 //! Laws of nesting repair, each the contract of a function that does nothing.
 
-ghost use Rattle.pur_nesting.specs.Laws.{KeepsLetters, KeepsFree, KeepsPermitted, KeepsSpellable, KeepsCounts, NeverMore, GivesWords, GivesAWord, JoinsTexts, LeavesSettled, IsSettling, ValidAreSettled, RepairsOnce};
+ghost use Rattle.pur_nesting.specs.Laws.{KeepsForests, KeepsLetters, KeepsFree, KeepsPermitted, KeepsSpellable, KeepsCounts, NeverMore, GivesWords, GivesAWord, JoinsTexts, LeavesSettled, IsSettling, ValidAreSettled, RepairsOnce};
 ghost use Rattle.pur_nesting.specs.Rows.{DropsAnEmptyList, KeepsADefinition, JoinsNeighbours, PutsTheCaptionFirst, MakesAParagraph, LosesACaption, DropsABlankTable, PutsBodiesLast, MakesTheHeadABody, TakesTheRowsOfTheHead, MakesTheFootABody, PutsTheFootBeforeBodies, DropsAnEmptyTable, DropsRowsWithoutCells, KeepsAttributesOfAHead, TakesTheRowsOfAFoot, PutsRunsIntoBodies};
 
 /// Letters stay letters of their parent's content.
@@ -67,6 +67,11 @@ pub fn valid_are_settled()
 /// What repair leaves it leaves as it is.
 pub fn repairs_once()
     ensures { RepairsOnce }
+{}
+
+/// A forest stays one: no level comes to pass the limit, no text becomes empty, and EMPTY elements stay without children.
+pub fn keeps_forests()
+    ensures { KeepsForests }
 {}
 
 /// Worked examples of the definition.
