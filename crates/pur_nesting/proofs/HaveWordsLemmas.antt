@@ -1,6 +1,5 @@
 -- Words through the repair of a table's parts.
 use Rattle.std.proofs.Common.{◌≡◌, [], ◌∷◌, Bool, true, false, refl, ap, sym, ◌∙◌, subst, arith}
-use Rattle.std.specs.Prelude.{if◌then◌else◌}
 use Rattle.pur_laws.proofs.Truth.{either}
 use Rattle.pur_names.specs.declared.elements.Element.{Element}
 use Rattle.pur_names.specs.declared.elements.Element.TheVariants.{Tbody, Tr}
@@ -12,7 +11,7 @@ use Rattle.pur_modules.specs.declared.kinds.Doctype.{Doctype}
 use Rattle.pur_modules.specs.Contents.{content_held}
 use Rattle.pur_modules.specs.Expressions.{has_text_letter}
 use Rattle.pur_models.proofs.WordLemmas.{some_letters}
-use Rattle.pur_tree.specs.Nodes.{PlainElem, bare, Nodes, no_nodes, text_first, elem_first, nodes_append}
+use Rattle.pur_tree.specs.Nodes.{PlainElem, Nodes, no_nodes, text_first, elem_first, nodes_append}
 use Rattle.pur_tree.specs.Properties.{Holds, letters}
 use Rattle.pur_tree.specs.Words.{word_of, IsWord, HaveWords}
 use Rattle.pur_nesting.specs.declared.permits.Permits.{Permits}
@@ -69,11 +68,11 @@ HaveWords-run_of_rows d no_nodes h = tt
 HaveWords-run_of_rows d (text_first s f) h = HaveWords-run_of_rows d f h
 HaveWords-run_of_rows d (elem_first e kids f) h = go (same_element e.name Tr) refl (HaveWords-run_of_rows d f h.2)
   where
-    go : (b : Bool) → same_element e.name Tr ≡ b → HaveWords d Rows (run_of_rows f) → HaveWords d Rows (if b then elem_first e kids (run_of_rows f) else no_nodes)
+    go : (b : Bool) → same_element e.name Tr ≡ b → HaveWords d Rows (run_of_rows f) → HaveWords d Rows (run_of_rows (elem_first e kids f))
     go true is r =
         let same = row_same d e.name ((same_element-Decides e.name Tr).0 is) in
-        (IsWord-at d _ _ kids same h.0, HaveWords-at d _ _ kids same h.1, r)
-    go false is r = tt
+        rw is (IsWord-at d _ _ kids same h.0, HaveWords-at d _ _ kids same h.1, r)
+    go false is r = rw is tt
 
 HaveWords-as_body : (d : Doctype) (tbody : Bool) (e : PlainElem) (kids : Nodes) → Holds (letters d) (content_held d e.name TableParts) kids
     → IsWord d (content_held d e.name TableParts) kids → HaveWords d (content_held d e.name TableParts) kids → HaveWords d TableParts (as_body tbody e kids)
@@ -86,11 +85,13 @@ HaveWords-as_body d tbody e kids l w h =
           (HaveWords-rows d kids (at_kind d (content_held d e.name TableParts) Rows kids rows l) (HaveWords-at d (content_held d e.name TableParts) Rows kids rows h))
     ) (λ other. (w, h, tt))
 
-pub HaveWords-as_bodies : (d : Doctype) (tbody : Bool) (f : Nodes) → Holds (letters d) TableParts f → HaveWords d TableParts f → HaveWords d TableParts (as_bodies tbody f)
+pub HaveWords-as_bodies : (d : Doctype) (tbody : Bool) (f : Nodes) → Holds (letters d) TableParts f → HaveWords d TableParts f
+    → HaveWords d TableParts (as_bodies tbody f)
 HaveWords-as_bodies d tbody no_nodes l h = tt
 HaveWords-as_bodies d tbody (text_first s f) l h = HaveWords-as_bodies d tbody f l.1 h
 HaveWords-as_bodies d tbody (elem_first e kids f) l h =
-    HaveWords-append d TableParts (as_body tbody e kids) (as_bodies tbody f) (HaveWords-as_body d tbody e kids l.1 h.0 h.1) (HaveWords-as_bodies d tbody f l.2 h.2)
+    HaveWords-append d TableParts (as_body tbody e kids) (as_bodies tbody f)
+    (HaveWords-as_body d tbody e kids l.1 h.0 h.1) (HaveWords-as_bodies d tbody f l.2 h.2)
 
 -- a row and the run behind it are a word of a body
 run_word : (d : Doctype) (e : PlainElem) (kids f : Nodes) → Holds (letters d) Rows (elem_first e kids f) → IsWord d Rows (elem_first e kids f)
@@ -117,14 +118,10 @@ HaveWords-runs d p in_run (elem_first e kids f) l h =
         )
 
     go : (b : Bool) → same_element e.name Tr ≡ b → (i : Bool) → HaveWords d TableParts (runs_in_bodies true f) → HaveWords d TableParts (runs_in_bodies false f)
-        → HaveWords d TableParts (
-          if b
-          then (if i then runs_in_bodies true f else elem_first (bare Tbody) (elem_first e kids (run_of_rows f)) (runs_in_bodies true f))
-          else elem_first e kids (runs_in_bodies false f)
-        )
-    go true is true r s = r
-    go true is false r s = let made = run is in (made.0, made.1, r)
-    go false is i r s = (h.0, h.1, s)
+        → HaveWords d TableParts (runs_in_bodies i (elem_first e kids f))
+    go true is true r s = rw is r
+    go true is false r s = let made = run is in rw is (made.0, made.1, r)
+    go false is i r s = rw is (h.0, h.1, s)
 
 pub HaveWords-of_one_kind : (d : Doctype) (p : Permits) (f : Nodes) → Holds (letters d) TableParts f → HaveWords d TableParts f
     → HaveWords d TableParts (of_one_kind f)

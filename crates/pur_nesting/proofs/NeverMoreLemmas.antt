@@ -11,9 +11,9 @@ use Rattle.pur_nesting.specs.declared.permits.Permits.{Permits}
 use Rattle.pur_nesting.specs.declared.roles.Part.{Part}
 use Rattle.pur_nesting.specs.declared.roles.Part.TheVariants.{Lead, Captions, Columns, Heads, Feet, Bodies}
 use Rattle.pur_nesting.specs.Parts.{role_of, at_first}
-use Rattle.pur_nesting.specs.Tables.{are_blank, from_first_element, is_head_or_foot, as_body, as_bodies, table, without_bodies, parts_of, repaired_table}
+use Rattle.pur_nesting.specs.Tables.{are_blank, from_first_element, is_head_or_foot, as_body, as_bodies, without_bodies, parts_of, repaired_table}
 use Rattle.pur_nesting.specs.Nesting.{vanishes, repair, nested}
-use Rattle.pur_nesting.proofs.PartCountLemmas.{count_in_parts, parts_have_all, count_in_text-table}
+use Rattle.pur_nesting.proofs.PartCountLemmas.{count_in_parts, parts_have_all, Sums, count_in_text-table}
 use Rattle.pur_nesting.proofs.TableLemmas.{each_table}
 
 -- the character stands in the nodes so often at most
@@ -28,8 +28,10 @@ less-from_first_element c (elem_first e kids f) = omega arith
 less-as_body : (c : ℕ) (tbody : Bool) (e : PlainElem) (kids : Nodes) → count_in_text c (as_body tbody e kids) ≤ count_in_text c kids
 less-as_body c tbody e kids =
     let less = AtMost c (count_in_text c kids) in
-    either less (is_head_or_foot (role_of e.name)) (if tbody then elem_first (plain_elem Tbody e.attrs) kids no_nodes else from_first_element kids) (elem_first e kids no_nodes)
-    (either less tbody (elem_first (plain_elem Tbody e.attrs) kids no_nodes) (from_first_element kids) here (less-from_first_element c kids)) here
+    let body = elem_first (plain_elem Tbody e.attrs) kids no_nodes in
+    let rows = from_first_element kids in
+    either less (is_head_or_foot (role_of e.name)) (if tbody then body else rows) (elem_first e kids no_nodes)
+    (either less tbody body rows here (less-from_first_element c kids)) here
   where
     here : count_in_text c kids + 0 ≤ count_in_text c kids
     here = omega arith
@@ -46,11 +48,12 @@ less-without_bodies : (c : ℕ) (paragraph : Bool) (f : Nodes) → count_in_text
 less-without_bodies c paragraph no_nodes = omega arith
 less-without_bodies c paragraph (text_first s f) = omega arith
 less-without_bodies c paragraph (elem_first e kids f) =
-    either (AtMost c (count_in_text c kids + count_in_text c f)) (paragraph && not (are_blank kids)) (elem_first (bare P) kids no_nodes) no_nodes (omega arith) (omega arith)
+    either (AtMost c (count_in_text c kids + count_in_text c f)) (paragraph && not (are_blank kids)) (elem_first (bare P) kids no_nodes) no_nodes
+    (omega arith) (omega arith)
 
 less-repaired_table : (c : ℕ) (p : Permits) (e : PlainElem) (kids : Nodes) → count_in_text c (repaired_table p e kids) ≤ count_in_text c kids
 less-repaired_table c p e kids =
-    each_table (AtMost c (count_in_text c kids)) p e kids
+    each_table (AtMost c (count_in_text c kids)) p e (parts_of kids)
     (λ x. let b = less-as_bodies c p.tbody (parts Bodies) in omega (arith, made (parts Heads) (parts Feet) (as_bodies p.tbody (parts Bodies)), b, all))
     (λ x y. let b = less-as_bodies c p.tbody (parts Feet) in omega (arith, made (parts Heads) no_nodes (as_bodies p.tbody (parts Feet)), b, all))
     (λ x y z. let b = less-as_bodies c p.tbody (parts Heads) in omega (arith, made no_nodes no_nodes (as_bodies p.tbody (parts Heads)), b, all))
@@ -59,9 +62,7 @@ less-repaired_table c p e kids =
     parts : Part → Nodes
     parts = parts_of kids
 
-    made : (heads feet bodies : Nodes) → count_in_text c (table e (parts_of kids Lead) (parts_of kids Captions) (parts_of kids Columns) heads feet bodies)
-        ≡ count_in_text c (parts_of kids Lead) + (count_in_text c (parts_of kids Captions) + (count_in_text c (parts_of kids Columns)
-        + (count_in_text c heads + (count_in_text c feet + count_in_text c bodies))))
+    made : (heads feet bodies : Nodes) → Sums c e (parts_of kids Lead) (parts_of kids Captions) (parts_of kids Columns) heads feet bodies
     made = count_in_text-table c e (parts_of kids Lead) (parts_of kids Captions) (parts_of kids Columns)
 
     all : count_in_parts c (parts_of kids) ≡ count_in_text c kids
@@ -70,7 +71,8 @@ less-repaired_table c p e kids =
 less-repair : (c : ℕ) (p : Permits) (e : PlainElem) (kids : Nodes) → count_in_text c (repair p e kids) ≤ count_in_text c kids
 less-repair c p e kids =
     let less = AtMost c (count_in_text c kids) in
-    either less (same_element e.name Table) (repaired_table p e kids) (if vanishes e.name kids then no_nodes else elem_first e kids no_nodes) (less-repaired_table c p e kids)
+    let other = if vanishes e.name kids then no_nodes else elem_first e kids no_nodes in
+    either less (same_element e.name Table) (repaired_table p e kids) other (less-repaired_table c p e kids)
     (either less (vanishes e.name kids) no_nodes (elem_first e kids no_nodes) (omega arith) (omega arith))
 
 less-walk : (c : ℕ) (p : Permits) (f : Nodes) → count_in_text c (walk (repair p) f) ≤ count_in_text c f

@@ -83,7 +83,7 @@ HaveWords-without_bodies d k paragraph (elem_first e kids f) fits h = go (paragr
 pub HaveWords-repaired_table : (d : Doctype) (p : Permits) (k : Content) (e : PlainElem) (kids : Nodes) → e.name ≡ Table
     → Holds (letters d) TableParts kids → HaveWords d TableParts kids → HaveWords d k (repaired_table p e kids)
 HaveWords-repaired_table d p k e kids named l h =
-    each_table (HaveWords d k) p e kids (
+    each_table (HaveWords d k) p e (parts_of kids) (
       λ x. made (parts_of kids Heads) (parts_of kids Feet) (parts_of kids Bodies) heads feet (good Bodies) (fits Bodies) (Begins-part Bodies at_first kids refl x)
     ) (
       λ x y. made (parts_of kids Heads) no_nodes (parts_of kids Feet) heads (tt, tt, tt, tt) (good Feet) (Fits-feet (parts_of kids Feet) (fits Feet))
