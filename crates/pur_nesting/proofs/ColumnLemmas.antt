@@ -39,16 +39,20 @@ more_columns g m (elem_first e kids f) groups columns = go g (role_of e.name) re
     go true ColumnGroup is h k more = let o = more (next m ColumnGroup) (ap not k) k in rw k (rw (of_role e.name ColumnGroup is refl) (refl, rw k at o))
     go g role is h k more = rw (passed Columns m e kids f role refl) (more (next m role) h k)
 
-pub columns_alike : (m : Met) (f : Nodes) → m.groups ≡ false → m.columns ≡ false → Only (Col ∷ []) (part Columns m f) ⊎ Only (Colgroup ∷ []) (part Columns m f)
+-- all columns are of one kind
+abbrev pub AreAlike : Nodes → Type 0
+AreAlike f = Only (Col ∷ []) f ⊎ Only (Colgroup ∷ []) f
+
+pub columns_alike : (m : Met) (f : Nodes) → m.groups ≡ false → m.columns ≡ false → AreAlike (part Columns m f)
 columns_alike m no_nodes g c = inl tt
 columns_alike m (text_first s f) g c =
-    let more = columns_alike m f g c in
-    either (λ x. Only (Col ∷ []) x ⊎ Only (Colgroup ∷ []) x) (same_part Columns m.part) (text_first s (part Columns m f)) (part Columns m f) more more
+    let more = columns_alike m f g c in either AreAlike (same_part Columns m.part) (text_first s (part Columns m f)) (part Columns m f) more more
 columns_alike m (elem_first e kids f) g c = go (role_of e.name) refl (λ n h k. columns_alike n f h k)
   where
-    go : (r : Role) → role_of e.name ≡ r → ((n : Met) → n.groups ≡ false → n.columns ≡ false → Only (Col ∷ []) (part Columns n f) ⊎ Only (Colgroup ∷ []) (part Columns n f))
-        → Only (Col ∷ []) (if same_part Columns (next m r).part then elem_first e kids (part Columns (next m r) f) else part Columns (next m r) f)
-        ⊎ Only (Colgroup ∷ []) (if same_part Columns (next m r).part then elem_first e kids (part Columns (next m r) f) else part Columns (next m r) f)
-    go Column is more = let o = more_columns false (next m Column) f g (ap not g) in inl (rw g (rw (of_role e.name Column is refl) (refl, rw g at o)))
-    go ColumnGroup is more = let o = more_columns true (next m ColumnGroup) f (ap not c) c in inr (rw c (rw (of_role e.name ColumnGroup is refl) (refl, rw c at o)))
+    go : (r : Role) → role_of e.name ≡ r → ((n : Met) → n.groups ≡ false → n.columns ≡ false → AreAlike (part Columns n f))
+        → AreAlike (if same_part Columns (next m r).part then elem_first e kids (part Columns (next m r) f) else part Columns (next m r) f)
+    go Column is more =
+        let o = more_columns false (next m Column) f g (ap not g) in inl (rw g (rw (of_role e.name Column is refl) (refl, rw g at o)))
+    go ColumnGroup is more =
+        let o = more_columns true (next m ColumnGroup) f (ap not c) c in inr (rw c (rw (of_role e.name ColumnGroup is refl) (refl, rw c at o)))
     go role is more = rw (passed Columns m e kids f role refl) (more (next m role) g c)

@@ -102,7 +102,8 @@ text_joins d k s t h i = go (is_letter d k Text) h i
   where
     go : (b : Bool) → (is_blank s || b) ≡ true → (is_blank t || b) ≡ true → (is_blank (s ++ t) || b) ≡ true
     go true h i = or_true (is_blank (s ++ t))
-    go false h i = or_false (is_blank (s ++ t)) ∙ list_all-append is_space s t ∙ and_from _ _ (sym (or_false (is_blank s)) ∙ h) (sym (or_false (is_blank t)) ∙ i)
+    go false h i =
+        or_false (is_blank (s ++ t)) ∙ list_all-append is_space s t ∙ and_from _ _ (sym (or_false (is_blank s)) ∙ h) (sym (or_false (is_blank t)) ∙ i)
 
 pub letters_stay : (d : Doctype) (p : Permits) → StaysInRepair (letters d) p
 letters_stay d p = record {

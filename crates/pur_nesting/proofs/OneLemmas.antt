@@ -62,7 +62,8 @@ met_there w m r h k = absurd (cc)
 
 NoElems-part : (w : Part) (m : Met) (f : Nodes) → met_at w m ≡ true → NoElems (part w m f)
 NoElems-part w m no_nodes h = tt
-NoElems-part w m (text_first s f) h = let r = NoElems-part w m f h in either NoElems (same_part w m.part) (text_first s (part w m f)) (part w m f) r r
+NoElems-part w m (text_first s f) h =
+    let r = NoElems-part w m f h in either NoElems (same_part w m.part) (text_first s (part w m f)) (part w m f) r r
 NoElems-part w m (elem_first e kids f) h =
     let n : Met = next m (role_of e.name) in
     let stays = stays_met w m (role_of e.name) h in
@@ -71,7 +72,8 @@ NoElems-part w m (elem_first e kids f) h =
 
 pub AtMostOne-part : (w : Part) (m : Met) (f : Nodes) → is_single w ≡ true → AtMostOne (part w m f)
 AtMostOne-part w m no_nodes h = tt
-AtMostOne-part w m (text_first s f) h = let r = AtMostOne-part w m f h in either AtMostOne (same_part w m.part) (text_first s (part w m f)) (part w m f) r r
+AtMostOne-part w m (text_first s f) h =
+    let r = AtMostOne-part w m f h in either AtMostOne (same_part w m.part) (text_first s (part w m f)) (part w m f) r r
 AtMostOne-part w m (elem_first e kids f) h =
     let n : Met = next m (role_of e.name) in
     in_part AtMostOne w n.part (elem_first e kids (part w n f)) (part w n f)

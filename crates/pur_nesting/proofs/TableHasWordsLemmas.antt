@@ -1,8 +1,8 @@
 -- A repaired table has words.
-use Rattle.std.proofs.Common.{◌≡◌, ◌⊎◌, [], ◌∷◌, Bool, true, false, not, ◌&&◌, refl, ap, sym, ◌∙◌}
+use Rattle.std.proofs.Common.{◌≡◌, [], ◌∷◌, Bool, true, false, not, ◌&&◌, refl, ap, sym, ◌∙◌}
 use Rattle.pur_laws.proofs.Truth.{either}
 use Rattle.pur_names.specs.declared.elements.Element.{Element}
-use Rattle.pur_names.specs.declared.elements.Element.TheVariants.{Caption, Col, Colgroup, P, Table, Tbody, Tfoot, Thead, Tr}
+use Rattle.pur_names.specs.declared.elements.Element.TheVariants.{Caption, P, Table, Tbody, Tfoot, Thead, Tr}
 use Rattle.pur_modules.specs.declared.kinds.Content.{Content}
 use Rattle.pur_modules.specs.declared.kinds.Content.TheVariants.{TableParts}
 use Rattle.pur_modules.specs.declared.kinds.Doctype.{Doctype}
@@ -28,7 +28,7 @@ use Rattle.pur_nesting.proofs.BlankLemmas.{Blank, Blank-letters, NoElems-lead, H
 use Rattle.pur_nesting.proofs.OrderLemmas.{Only}
 use Rattle.pur_nesting.proofs.TableLemmas.{each_table}
 use Rattle.pur_nesting.proofs.OnlyLemmas.{Only-role, only_Title, only_Header, only_Footer, Only-as_bodies, Fits-heads, Fits-feet, bodies_alike}
-use Rattle.pur_nesting.proofs.ColumnLemmas.{columns_alike}
+use Rattle.pur_nesting.proofs.ColumnLemmas.{AreAlike, columns_alike}
 use Rattle.pur_nesting.proofs.BodyLemmas.{Begins, Begins-part, HasElems-as_bodies, HasElems-of_one_kind}
 use Rattle.pur_nesting.proofs.TableWordLemmas.{in_order, table_word}
 use Rattle.pur_nesting.proofs.HaveWordsLemmas.{HaveWords-at, IsWord-at, HaveWords-append, HaveWords-part, HaveWords-as_bodies, HaveWords-of_one_kind}
@@ -43,7 +43,7 @@ IsOne d x f = Holds (letters d) TableParts f × HaveWords d TableParts f × Only
 
 -- a table of good parts has words
 HaveWords-table : (d : Doctype) (p : Permits) (k : Content) (e : PlainElem) (lead captions columns heads feet bodies : Nodes) → e.name ≡ Table
-    → IsGood d lead → NoElems lead → IsOne d Caption captions → IsGood d columns → Only (Col ∷ []) columns ⊎ Only (Colgroup ∷ []) columns
+    → IsGood d lead → NoElems lead → IsOne d Caption captions → IsGood d columns → AreAlike columns
     → IsOne d Thead heads → IsOne d Tfoot feet → IsGood d bodies → Only (Tbody ∷ Tr ∷ []) bodies → HasElems bodies
     → HaveWords d k (table e lead captions columns heads feet bodies)
 HaveWords-table d p k e a b c x y z named ga none gb gc alike gx gy gz bodies some =

@@ -14,6 +14,7 @@ use Rattle.pur_tree.specs.Words.{word_of}
 use Rattle.pur_nesting.proofs.OneLemmas.{NoElems, AtMostOne}
 use Rattle.pur_nesting.proofs.BlankLemmas.{Blank, word-NoElems, HasElems, word-HasElems}
 use Rattle.pur_nesting.proofs.OrderLemmas.{Only}
+use Rattle.pur_nesting.proofs.ColumnLemmas.{AreAlike}
 
 word_of-append : (t : Bool) (f g : Nodes) → word_of t (nodes_append f g) ≡ word_of t f ++ word_of t g
 word_of-append t no_nodes g = refl
@@ -53,7 +54,7 @@ in_order lead captions columns heads feet bodies =
 -- they are a word of a table
 pub table_word : (lead captions columns heads feet bodies : Nodes) → Blank lead → NoElems lead
     → Blank captions → Only (Caption ∷ []) captions → AtMostOne captions
-    → Blank columns → Only (Col ∷ []) columns ⊎ Only (Colgroup ∷ []) columns
+    → Blank columns → AreAlike columns
     → Blank heads → Only (Thead ∷ []) heads → AtMostOne heads → Blank feet → Only (Tfoot ∷ []) feet → AtMostOne feet
     → Blank bodies → Only (Tbody ∷ []) bodies ⊎ Only (Tr ∷ []) bodies → HasElems bodies
     → IsTableWord (word_of false (in_order lead captions columns heads feet bodies))
@@ -90,7 +91,7 @@ table_word lead captions columns heads feet bodies lb ln cb co c1 kb ko hb ho h1
       joined = word;
     }
 
-    go : Only (Col ∷ []) columns ⊎ Only (Colgroup ∷ []) columns → Only (Tbody ∷ []) bodies ⊎ Only (Tr ∷ []) bodies
+    go : AreAlike columns → Only (Tbody ∷ []) bodies ⊎ Only (Tr ∷ []) bodies
         → IsTableWord (word_of false (in_order lead captions columns heads feet bodies))
     go (inl k) (inl b) = made Col Tbody (inl refl) (inl refl) k b
     go (inl k) (inr b) = made Col Tr (inl refl) (inr refl) k b
