@@ -23,7 +23,6 @@ use Rattle.pur_nesting.specs.Tables.{count_in_captions}
 use Rattle.pur_nesting.proofs.RoleLemmas.{of_role, may_hold}
 use Rattle.pur_nesting.proofs.HoldsLemmas.{Fits}
 use Rattle.pur_nesting.proofs.LetterLemmas.{no_text, at_kind, space_in}
-use Rattle.pur_nesting.proofs.OneLemmas.{held}
 use Rattle.pur_nesting.proofs.BlankLemmas.{none_in_space}
 
 nothing_letter : (d : Doctype) (e : Element) → is_letter d Nothing (Elem e) ≡ false

@@ -17,7 +17,6 @@ use Rattle.pur_nesting.specs.declared.permits.Permits.{Permits}
 use Rattle.pur_nesting.specs.Tables.{lost_in_table}
 use Rattle.pur_nesting.specs.Nesting.{vanishes, repair, nested, lost_in_nesting}
 use Rattle.pur_nesting.proofs.LetterLemmas.{held_table, at_kind, letters_walk}
-use Rattle.pur_nesting.proofs.OneLemmas.{held}
 use Rattle.pur_nesting.proofs.BlankLemmas.{count_in_text-NoElems}
 use Rattle.pur_nesting.proofs.NeededLemmas.{vanished}
 use Rattle.pur_nesting.proofs.TableCountLemmas.{count_in_text-repaired_table}

@@ -23,7 +23,6 @@ use Rattle.pur_tree.proofs.HoldsLemmas.{Holds-joined_nodes}
 use Rattle.pur_nesting.specs.declared.permits.Permits.{Permits}
 use Rattle.pur_nesting.specs.Nesting.{vanishes, repair, nested}
 use Rattle.pur_nesting.proofs.LetterLemmas.{held_table, at_kind, letters_stay, letters_walk}
-use Rattle.pur_nesting.proofs.OneLemmas.{held}
 use Rattle.pur_nesting.proofs.BlankLemmas.{Blank, Blank-letters}
 use Rattle.pur_nesting.proofs.WordLemmas.{letters_word, word_of_element}
 use Rattle.pur_nesting.proofs.HaveWordsLemmas.{HaveWords-at, HaveWords-append}

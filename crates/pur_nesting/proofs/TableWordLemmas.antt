@@ -9,7 +9,6 @@ use Rattle.pur_modules.specs.Expressions.{optional, any_of, some_of, elems}
 use Rattle.pur_models.specs.Languages.{IsRun, all_among}
 use Rattle.pur_models.specs.Laws.{IsTableWord}
 use Rattle.pur_tree.specs.Nodes.{Nodes, no_nodes, text_first, elem_first, nodes_append}
-use Rattle.pur_tree.specs.Properties.{letters}
 use Rattle.pur_tree.specs.Words.{word_of}
 use Rattle.pur_nesting.proofs.OneLemmas.{NoElems, AtMostOne}
 use Rattle.pur_nesting.proofs.BlankLemmas.{Blank, word-NoElems, HasElems, word-HasElems}

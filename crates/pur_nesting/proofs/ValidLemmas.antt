@@ -25,7 +25,6 @@ use Rattle.pur_nesting.specs.declared.permits.Permits.{Permits}
 use Rattle.pur_nesting.specs.Nesting.{vanishes, repair, nested}
 use Rattle.pur_nesting.specs.Settled.{IsSettled}
 use Rattle.pur_nesting.proofs.LetterLemmas.{held_table, no_text, letters_nested}
-use Rattle.pur_nesting.proofs.OneLemmas.{held}
 use Rattle.pur_nesting.proofs.BlankLemmas.{word-NoElems}
 use Rattle.pur_nesting.proofs.NeededLemmas.{vanished}
 use Rattle.pur_nesting.proofs.JoinedWordsLemmas.{HaveWords-nested}

@@ -24,7 +24,6 @@ use Rattle.pur_tree.specs.Words.{word_of, IsWord}
 use Rattle.pur_nesting.specs.Tables.{has_child}
 use Rattle.pur_nesting.specs.Nesting.{needed_by, vanishes}
 use Rattle.pur_nesting.proofs.LetterLemmas.{space_in}
-use Rattle.pur_nesting.proofs.OneLemmas.{held}
 use Rattle.pur_nesting.proofs.BlankLemmas.{word-HasElems, child-HasElems}
 use Rattle.pur_nesting.proofs.NeededLemmas.{needs}
 use Rattle.pur_modules.proofs.KindLaws.{each_kind}
