@@ -60,9 +60,9 @@ HasElems-as_body : (d : Doctype) (tbody : Bool) (e : PlainElem) (kids : Nodes) �
     → IsWord d (content_held d e.name TableParts) kids → HasElems (as_body tbody e kids)
 HasElems-as_body d tbody e kids l w =
     each_body HasElems d tbody e kids (λ rows. tt) (
-      λ rows. let letters_of_rows = at_kind d (content_held d e.name TableParts) Rows kids rows l in
-          let word = subst (λ x. IsWord d x kids) rows w in
-          HasElems-from_first_element kids (HasElems-rows d kids letters_of_rows word)
+    λ rows. let letters_of_rows = at_kind d (content_held d e.name TableParts) Rows kids rows l in
+    let word = subst (λ x. IsWord d x kids) rows w in
+    HasElems-from_first_element kids (HasElems-rows d kids letters_of_rows word)
     ) (λ other. tt)
 
 pub HasElems-as_bodies : (d : Doctype) (tbody : Bool) (f : Nodes) → Begins f → Holds (letters d) TableParts f → HaveWords d TableParts f

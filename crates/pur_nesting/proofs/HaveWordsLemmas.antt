@@ -78,11 +78,11 @@ HaveWords-as_body : (d : Doctype) (tbody : Bool) (e : PlainElem) (kids : Nodes) 
     → IsWord d (content_held d e.name TableParts) kids → HaveWords d (content_held d e.name TableParts) kids → HaveWords d TableParts (as_body tbody e kids)
 HaveWords-as_body d tbody e kids l w h =
     each_body (HaveWords d TableParts) d tbody e kids (
-      λ rows. let same : content_held d e.name TableParts ≡ content_held d Tbody TableParts = rows ∙ sym (held_rows d TableParts).2 in
-          (IsWord-at d _ _ kids same w, HaveWords-at d _ _ kids same h, tt)
+    λ rows. let same : content_held d e.name TableParts ≡ content_held d Tbody TableParts = rows ∙ sym (held_rows d TableParts).2 in
+    (IsWord-at d _ _ kids same w, HaveWords-at d _ _ kids same h, tt)
     ) (
-      λ rows. HaveWords-from_first_element d TableParts kids
-          (HaveWords-rows d kids (at_kind d (content_held d e.name TableParts) Rows kids rows l) (HaveWords-at d (content_held d e.name TableParts) Rows kids rows h))
+    λ rows. HaveWords-from_first_element d TableParts kids
+    (HaveWords-rows d kids (at_kind d (content_held d e.name TableParts) Rows kids rows l) (HaveWords-at d (content_held d e.name TableParts) Rows kids rows h))
     ) (λ other. (w, h, tt))
 
 pub HaveWords-as_bodies : (d : Doctype) (tbody : Bool) (f : Nodes) → Holds (letters d) TableParts f → HaveWords d TableParts f

@@ -47,8 +47,8 @@ HaveWords-walk d p k (text_first s f) l = HaveWords-walk d p k f l.1
 HaveWords-walk d p k (elem_first e kids f) l =
     HaveWords-append d k (repair p e (walk (repair p) kids)) (walk (repair p) f)
     (
-      HaveWords-repair d p k e (walk (repair p) kids) (letters_walk d p (content_held d e.name k) kids l.1)
-          (HaveWords-walk d p (content_held d e.name k) kids l.1)
+    HaveWords-repair d p k e (walk (repair p) kids) (letters_walk d p (content_held d e.name k) kids l.1)
+    (HaveWords-walk d p (content_held d e.name k) kids l.1)
     )
     (HaveWords-walk d p k f l.2)
 

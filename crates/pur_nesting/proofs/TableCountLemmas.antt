@@ -32,8 +32,8 @@ count_in_text-as_body : (c : ℕ) (d : Doctype) (tbody : Bool) (e : PlainElem) (
     → Holds (letters d) (content_held d e.name TableParts) kids → count_in_text c (as_body tbody e kids) ≡ count_in_text c kids
 count_in_text-as_body c d tbody e kids other h =
     each_body (λ body. count_in_text c body ≡ count_in_text c kids) d tbody e kids (λ rows. omega arith) (
-      λ rows. let l = at_kind d (content_held d e.name TableParts) Rows kids rows h in
-          count_in_text-from_first_element c kids other (Blank-letters d Rows kids (no_text d).0 l)
+    λ rows. let l = at_kind d (content_held d e.name TableParts) Rows kids rows h in
+    count_in_text-from_first_element c kids other (Blank-letters d Rows kids (no_text d).0 l)
     ) (λ stays. omega arith)
 
 count_in_text-as_bodies : (c : ℕ) (d : Doctype) (tbody : Bool) (f : Nodes) → is_space c ≡ false → Holds (letters d) TableParts f

@@ -87,14 +87,14 @@ pub HaveWords-repaired_table : (d : Doctype) (p : Permits) (k : Content) (e : Pl
     → Holds (letters d) TableParts kids → HaveWords d TableParts kids → HaveWords d k (repaired_table p e kids)
 HaveWords-repaired_table d p k e kids named l h =
     each_table (HaveWords d k) p e (parts_of kids) (
-      λ x. made (parts_of kids Heads) (parts_of kids Feet) (parts_of kids Bodies) heads feet (good Bodies) (fits Bodies)
-          (Begins-part Bodies at_first kids refl x)
+    λ x. made (parts_of kids Heads) (parts_of kids Feet) (parts_of kids Bodies) heads feet (good Bodies) (fits Bodies)
+    (Begins-part Bodies at_first kids refl x)
     ) (
-      λ x y. made (parts_of kids Heads) no_nodes (parts_of kids Feet) heads (tt, tt, tt, tt) (good Feet) (Fits-feet (parts_of kids Feet) (fits Feet))
-          (Begins-part Feet at_first kids refl y)
+    λ x y. made (parts_of kids Heads) no_nodes (parts_of kids Feet) heads (tt, tt, tt, tt) (good Feet) (Fits-feet (parts_of kids Feet) (fits Feet))
+    (Begins-part Feet at_first kids refl y)
     ) (
-      λ x y z. made no_nodes no_nodes (parts_of kids Heads) (tt, tt, tt, tt) (tt, tt, tt, tt) (good Heads) (Fits-heads (parts_of kids Heads) (fits Heads))
-          (Begins-part Heads at_first kids refl z)
+    λ x y z. made no_nodes no_nodes (parts_of kids Heads) (tt, tt, tt, tt) (tt, tt, tt, tt) (good Heads) (Fits-heads (parts_of kids Heads) (fits Heads))
+    (Begins-part Heads at_first kids refl z)
     ) (λ x y z. HaveWords-without_bodies d k p.paragraph (parts_of kids Captions) (fits Captions) (good Captions).1)
   where
     good : (w : Part) → IsGood d (parts_of kids w)
