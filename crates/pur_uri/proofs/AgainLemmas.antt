@@ -15,11 +15,12 @@ use Rattle.pur_uri.specs.Authorities.{host_of, behind_host, is_authority, is_por
 use Rattle.pur_uri.specs.Escapes.{is_unreserved, stays_in_path, stays_in_query, written, escaped_value, normalised}
 use Rattle.pur_uri.specs.Fronts.{escape_in_front}
 use Rattle.pur_uri.specs.Uris.{PlainUri, scheme_of, scheme_in, is_scheme, needs_authority, fits, has_reading, port_in, uri_with, reading_of, uri_of_parts, uri_of, scheme_text, host_text, port_text, query_text, fragment_text, uri_text}
-use Rattle.pur_uri.proofs.ByteLemmas.{HasBytes, are_bytes, parts_bytes, text_bytes as utf8_bytes, tidied_bytes}
+use Rattle.pur_uri.proofs.ByteLemmas.{are_bytes, bytes_take, bytes_drop, text_bytes as utf8_bytes, tidied_bytes}
 use Rattle.pur_uri.proofs.CuttingLemmas.{unlike, front_cut, behind_cut, fragment_cut, query_cut, query_rest, query_stops, tidied_same}
 use Rattle.pur_uri.proofs.EscapeLemmas.{is_escape_byte, normalised_all, normalised_byte, normalised_escape, normalised_kept}
 use Rattle.pur_uri.proofs.HostLemmas.{IsKeptPort, port_kept, authority_inside, host_again, authority_again, own_port_again}
 use Rattle.pur_uri.proofs.PartLemmas.{IsPlaced, first_fails, parts_placed, seam_authority, seam_scheme}
+use Rattle.pur_uri.proofs.PieceLemmas.{EachPart, each_part}
 use Rattle.pur_uri.proofs.ReadingLemmas.{parts_cut}
 use Rattle.pur_uri.proofs.SettlingLemmas.{option_cases, colon_kept, two_slashes_kept, scheme_kept}
 use Rattle.pur_uri.proofs.TextLemmas.{text_bytes, read_from, unreserved_in_path}
@@ -66,7 +67,7 @@ no_scheme_ahead None path tail stop relative = seam_scheme path tail stop ∙ re
 no_scheme_ahead (Some a) path tail stop relative = refl
 
 -- the parts, each that is there with its mark
-text_of_parts : Option SchemeName → Option (List ℕ) → List ℕ → Option (List ℕ) → Option (List ℕ) → List ℕ
+abbrev pub text_of_parts : Option SchemeName → Option (List ℕ) → List ℕ → Option (List ℕ) → Option (List ℕ) → List ℕ
 text_of_parts scheme authority path query fragment =
     scheme_text scheme ++ (host_text authority ++ (path ++ (query_text query ++ fragment_text fragment)))
 
@@ -75,7 +76,6 @@ cut_again : (scheme : Option SchemeName) (authority : Option (List ℕ)) (path :
     → ((a : List ℕ) → authority ≡ Some a → list_all is_in_authority a ≡ true) → ((q : List ℕ) → query ≡ Some q → list_all is_in_query q ≡ true)
     → parts_of (text_of_parts scheme authority path query fragment)
     ≡ (let parts : Parts = record { scheme = option_map scheme_name scheme; authority = authority; path = path; query = query; fragment = fragment } in parts)
-unfolding text_of_parts
 cut_again scheme authority path query fragment placed inside asked =
     let tail = query_text query ++ fragment_text fragment in
     let rest = path ++ tail in
@@ -173,16 +173,16 @@ authority_joined scheme None rest = refl
 authority_joined scheme (Some a) rest =
     ap (λ t. codes "//" ++ t) (sym (append_assoc (host_of a) (port_text (port_of scheme (behind_host a))) rest))
 
-text_written : (p : Parts) → uri_text (reading_of p)
+pub text_written : (p : Parts) → uri_text (reading_of p)
     ≡ (let w = parts_written p in text_of_parts (scheme_in p.scheme) w.authority w.path w.query w.fragment)
-unfolding uri_text reading_of text_of_parts
+unfolding uri_text reading_of
 text_written p =
     let w = parts_written p in
     ap (λ t. scheme_text (scheme_in p.scheme) ++ t) (authority_joined (scheme_in p.scheme) p.authority (w.path ++ (query_text w.query ++ fragment_text w.fragment)))
 
 -- ---- what is read of them
 
-authority_read : (authority : Option (List ℕ)) (a : List ℕ) → option_map_or is_authority authority true ≡ true → authority ≡ Some a
+pub authority_read : (authority : Option (List ℕ)) (a : List ℕ) → option_map_or is_authority authority true ≡ true → authority ≡ Some a
     → (is_host (host_of a) ≡ true) × (is_port (behind_host a) ≡ true)
 unfolding is_authority
 authority_read None a is e = absurd (cc)
@@ -195,7 +195,7 @@ module _ (scheme : Option SchemeName) where
       → list_all is_in_authority (authority_written scheme a) ≡ true
   authority_kept a kept is = authority_inside (host_of a) is scheme (port_of scheme (behind_host a)) kept
 
-  written_inside : (authority : Option (List ℕ)) → option_map_or is_authority authority true ≡ true
+  pub written_inside : (authority : Option (List ℕ)) → option_map_or is_authority authority true ≡ true
       → (a : List ℕ) → option_map (authority_written scheme) authority ≡ Some a → list_all is_in_authority a ≡ true
   written_inside authority is a e =
       let there = mapped_some (authority_written scheme) authority a e in
@@ -267,7 +267,7 @@ same_uri : (s s' : Option SchemeName) (h h' : Option (List ℕ)) (n n' : Option 
     ≡ (let other : PlainUri = record { scheme = s'; host = h'; port = n'; path = path'; query = q'; fragment = f' } in other)
 same_uri s s' h h' n n' path path' q q' f f' e1 e2 e3 e4 e5 e6 = rw (e1, e2, e3, e4, e5, e6) refl
 
-read_written : (p : Parts) → HasBytes p → has_reading p ≡ true
+read_written : (p : Parts) → EachPart (λ t. are_bytes t ≡ true) p → has_reading p ≡ true
     → (has_reading (parts_written p) ≡ true) × (reading_of (parts_written p) ≡ reading_of p)
 unfolding has_reading reading_of
 read_written p bytes is =
@@ -305,7 +305,7 @@ parts_again p placed is =
     ∙ cut_again (scheme_in p.scheme) w.authority w.path w.query w.fragment (placed_again p known placed)
     (written_inside (scheme_in p.scheme) p.authority tests.1) (query_inside p.query)
 
-settled : (p : Parts) → IsPlaced p.scheme p.authority p.path → HasBytes p → has_reading p ≡ true → uri_of (uri_text (reading_of p)) ≡ Some (reading_of p)
+settled : (p : Parts) → IsPlaced p.scheme p.authority p.path → EachPart (λ t. are_bytes t ≡ true) p → has_reading p ≡ true → uri_of (uri_text (reading_of p)) ≡ Some (reading_of p)
 unfolding uri_of uri_of_parts
 settled p placed bytes is =
     let read = read_written p bytes is in
@@ -318,4 +318,4 @@ read_again raw uri is e =
     let text = tidied raw in
     let read = read_from (parts_of text) uri e in
     subst (λ u. uri_of (uri_text u) ≡ Some u) (sym read.1)
-    (settled (parts_of text) (parts_placed text) (parts_bytes text (tidied_bytes raw (utf8_bytes raw is))) read.0)
+    (settled (parts_of text) (parts_placed text) (each_part (λ t. are_bytes t ≡ true) bytes_take bytes_drop text (tidied_bytes raw (utf8_bytes raw is))) read.0)
