@@ -13,7 +13,7 @@ use Rattle.pur_text.specs.Hosts.{is_host}
 use Rattle.pur_uri.specs.Splitting.{Parts, tidied, is_in_query, is_in_path, is_in_authority, is_in_scheme, begins_with, has_scheme, scheme_part, behind_scheme, has_authority, authority_part, behind_authority, path_part, behind_path, query_part, behind_query, fragment_part, parts_of}
 use Rattle.pur_uri.specs.Authorities.{host_of, behind_host, is_authority, is_port, port_of}
 use Rattle.pur_uri.specs.Escapes.{is_unreserved, stays_in_path, stays_in_query, written, escaped_value, normalised}
-use Rattle.pur_uri.specs.Fronts.{escape_in_front}
+use Rattle.pur_uri.specs.Private.Fronts.{escape_in_front}
 use Rattle.pur_uri.specs.Uris.{PlainUri, scheme_of, scheme_in, is_scheme, needs_authority, fits, has_reading, port_in, uri_with, reading_of, uri_of_parts, uri_of, scheme_text, host_text, port_text, query_text, fragment_text, uri_text}
 use Rattle.pur_uri.proofs.ByteLemmas.{are_bytes, bytes_take, bytes_drop, text_bytes as utf8_bytes, tidied_bytes}
 use Rattle.pur_uri.proofs.CuttingLemmas.{unlike, front_cut, behind_cut, fragment_cut, query_cut, query_rest, query_stops, tidied_same}

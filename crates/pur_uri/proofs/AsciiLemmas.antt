@@ -17,7 +17,7 @@ use Rattle.pur_names.proofs.SchemeNameLaws.{each_scheme, scheme_named-only}
 use Rattle.pur_text.specs.Hosts.{is_host, is_name_byte, is_ip6_byte, is_bracketed}
 use Rattle.pur_text.proofs.HostLaws.{host_plain}
 use Rattle.pur_uri.specs.Escapes.{is_unreserved, stays_in_path, stays_in_query, normalised}
-use Rattle.pur_uri.specs.Fronts.{stays_in}
+use Rattle.pur_uri.specs.Private.Fronts.{stays_in}
 use Rattle.pur_uri.specs.declared.escapes.Component.{Component}
 use Rattle.pur_uri.specs.declared.escapes.Component.TheVariants.{Path, Query}
 use Rattle.pur_uri.proofs.EscapeLemmas.{is_escape_byte, normalised_all}

@@ -13,7 +13,7 @@ use Rattle.pur_text.specs.Hosts.{is_host}
 use Rattle.pur_uri.specs.Splitting.{Parts, is_kept, is_blank, without_leading_spaces, without_outer_spaces, tidied, is_in_authority, begins_with, parts_of}
 use Rattle.pur_uri.specs.Authorities.{is_authority, host_of, behind_host, port_of}
 use Rattle.pur_uri.specs.Escapes.{is_unreserved, stays_in_path, stays_in_query, written, escaped_value, normalised}
-use Rattle.pur_uri.specs.Fronts.{escape_in_front}
+use Rattle.pur_uri.specs.Private.Fronts.{escape_in_front}
 use Rattle.pur_uri.specs.Laws.{has_comment}
 use Rattle.pur_uri.specs.Uris.{PlainUri, scheme_in, has_reading, reading_of, uri_of, uri_text, scheme_text, host_text, port_text, query_text, fragment_text}
 use Rattle.pur_uri.proofs.AgainLemmas.{authority_written, parts_written, text_of_parts, text_written, authority_read, written_inside}

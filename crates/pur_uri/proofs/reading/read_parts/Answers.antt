@@ -1,5 +1,5 @@
 use Rattle.std.proofs.Common.{sym}
-use Rattle.pur_uri.specs.Images.{parts_in}
+use Rattle.pur_uri.specs.Private.References.{parts_in}
 use Rattle.pur_uri.specs.Uris.{is_scheme, scheme_in}
 use Rattle.pur_uri.proofs.ReadingLemmas.{scheme_unknown, unchosen}
 use Rattle.pur_uri.proofs.reading.read_parts.Goals as goal
