@@ -1,5 +1,5 @@
 -- What was written is read as the same URI.
-use Rattle.std.proofs.Common.{◌≡◌, ◌⊎◌, ℕ, zero, suc, ◌+◌, ◌-◌, ◌<◌, ◌≤◌, Bool, true, false, List, [], ◌∷◌, ◌++◌, length, take, drop, Option, Some, None, option_map, IsUtf8, refl, sym, ap, subst, ◌∙◌, arith, inl, inr, ⊎_elim, append_assoc}
+use Rattle.std.proofs.Common.{◌≡◌, ℕ, Bool, true, false, List, [], ◌∷◌, ◌++◌, length, drop, Option, Some, None, option_map, IsUtf8, refl, sym, ap, subst, ◌∙◌, ⊎_elim, append_assoc}
 use Rattle.std.specs.Prelude.{◌==◌, ◌&&◌, ◌||◌, not, codes, is_some, if◌then◌else◌}
 use Rattle.std.specs.List.{list_all, prefix_len}
 use Rattle.std.specs.Option.{option_map_or}
@@ -10,11 +10,12 @@ use Rattle.pur_names.specs.Schemes.{scheme_name, scheme_named}
 use Rattle.pur_names.specs.declared.schemes.SchemeName.{SchemeName}
 use Rattle.pur_names.specs.declared.schemes.SchemeName.TheVariants.{Http, Https, Ftp, Nntp, Mailto, News, Tel}
 use Rattle.pur_text.specs.Hosts.{is_host}
-use Rattle.pur_uri.specs.Splitting.{Parts, tidied, is_in_query, is_in_path, is_in_authority, is_in_scheme, begins_with, has_scheme, scheme_part, behind_scheme, has_authority, authority_part, behind_authority, path_part, behind_path, query_part, behind_query, fragment_part, parts_of}
+use Rattle.pur_uri.specs.Splitting.{Parts, tidied, is_in_query, is_in_path, is_in_authority, has_scheme, scheme_part, behind_scheme, has_authority, authority_part, behind_authority, parts_of}
 use Rattle.pur_uri.specs.Authorities.{host_of, behind_host, is_authority, is_port, port_of}
-use Rattle.pur_uri.specs.Escapes.{is_unreserved, stays_in_path, stays_in_query, written, escaped_value, normalised}
+use Rattle.pur_uri.specs.Escapes.{is_unreserved, stays_in_path, stays_in_query, written, normalised}
 use Rattle.pur_uri.specs.Private.Fronts.{escape_in_front}
-use Rattle.pur_uri.specs.Uris.{PlainUri, scheme_of, scheme_in, is_scheme, needs_authority, fits, has_reading, port_in, uri_with, reading_of, uri_of_parts, uri_of, scheme_text, host_text, port_text, query_text, fragment_text, uri_text}
+use Rattle.pur_uri.specs.Uris.{PlainUri, scheme_of, scheme_in, is_scheme, needs_authority, fits, has_reading, port_in, reading_of, uri_of_parts, uri_of, scheme_text, host_text, port_text, query_text, fragment_text, uri_text}
+use Rattle.pur_uri.proofs.AsciiLemmas.{HostsArePlain, HostsAreLowered}
 use Rattle.pur_uri.proofs.ByteLemmas.{are_bytes, bytes_take, bytes_drop, text_bytes as utf8_bytes, tidied_bytes}
 use Rattle.pur_uri.proofs.CuttingLemmas.{unlike, front_cut, behind_cut, fragment_cut, query_cut, query_rest, query_stops, tidied_same}
 use Rattle.pur_uri.proofs.EscapeLemmas.{is_escape_byte, normalised_all, normalised_byte, normalised_escape, normalised_kept}
@@ -190,10 +191,10 @@ authority_read (Some x) a is e =
     let same : x ≡ a = cc in
     and_parts _ _ (subst (λ t. is_authority t ≡ true) same is)
 
-module _ (scheme : Option SchemeName) where
+module _ (plain : HostsArePlain) (scheme : Option SchemeName) where
   authority_kept : (a : List ℕ) → IsKeptPort scheme (port_of scheme (behind_host a)) → is_host (host_of a) ≡ true
       → list_all is_in_authority (authority_written scheme a) ≡ true
-  authority_kept a kept is = authority_inside (host_of a) is scheme (port_of scheme (behind_host a)) kept
+  authority_kept a kept is = authority_inside plain (host_of a) is scheme (port_of scheme (behind_host a)) kept
 
   pub written_inside : (authority : Option (List ℕ)) → option_map_or is_authority authority true ≡ true
       → (a : List ℕ) → option_map (authority_written scheme) authority ≡ Some a → list_all is_in_authority a ≡ true
@@ -202,18 +203,18 @@ module _ (scheme : Option SchemeName) where
       let read = authority_read authority there.0 is there.1.0 in
       subst (λ t. list_all is_in_authority t ≡ true) there.1.1 (authority_kept there.0 (port_kept scheme (behind_host there.0) read.1) read.0)
 
-  authority_settles : (authority : Option (List ℕ)) → option_map_or is_authority authority true ≡ true
-      → (option_map_or is_authority (option_map (authority_written scheme) authority) true ≡ true)
-      × ((option_map host_of (option_map (authority_written scheme) authority) ≡ option_map host_of authority)
-      × (port_in scheme (option_map (authority_written scheme) authority) ≡ port_in scheme authority))
-  authority_settles None is = (refl, (refl, refl))
-  authority_settles (Some a) is =
-      let read = authority_read (Some a) a is refl in
-      let port = port_of scheme (behind_host a) in
-      let kept = port_kept scheme (behind_host a) read.1 in (
-        authority_again (host_of a) read.0 scheme port kept,
-        (ap Some (host_again (host_of a) read.0 scheme port kept), own_port_again (host_of a) read.0 scheme port kept),
-      )
+authority_settles : HostsArePlain → HostsAreLowered → (scheme : Option SchemeName) (authority : Option (List ℕ)) → option_map_or is_authority authority true ≡ true
+    → (option_map_or is_authority (option_map (authority_written scheme) authority) true ≡ true)
+    × ((option_map host_of (option_map (authority_written scheme) authority) ≡ option_map host_of authority)
+    × (port_in scheme (option_map (authority_written scheme) authority) ≡ port_in scheme authority))
+authority_settles plain lowered scheme None is = (refl, (refl, refl))
+authority_settles plain lowered scheme (Some a) is =
+    let read = authority_read (Some a) a is refl in
+    let port = port_of scheme (behind_host a) in
+    let kept = port_kept scheme (behind_host a) read.1 in (
+      authority_again plain lowered (host_of a) read.0 scheme port kept,
+      (ap Some (host_again plain lowered (host_of a) read.0 scheme port kept), own_port_again plain lowered (host_of a) read.0 scheme port kept),
+    )
 
 scheme_settles : (scheme : Option SchemeName)
     → (is_scheme (option_map scheme_name scheme) ≡ true) × (scheme_in (option_map scheme_name scheme) ≡ scheme)
@@ -267,15 +268,15 @@ same_uri : (s s' : Option SchemeName) (h h' : Option (List ℕ)) (n n' : Option 
     ≡ (let other : PlainUri = record { scheme = s'; host = h'; port = n'; path = path'; query = q'; fragment = f' } in other)
 same_uri s s' h h' n n' path path' q q' f f' e1 e2 e3 e4 e5 e6 = rw (e1, e2, e3, e4, e5, e6) refl
 
-read_written : (p : Parts) → EachPart (λ t. are_bytes t ≡ true) p → has_reading p ≡ true
+read_written : HostsArePlain → HostsAreLowered → (p : Parts) → EachPart (λ t. are_bytes t ≡ true) p → has_reading p ≡ true
     → (has_reading (parts_written p) ≡ true) × (reading_of (parts_written p) ≡ reading_of p)
 unfolding has_reading reading_of
-read_written p bytes is =
+read_written plain lowered p bytes is =
     let tests = and_parts _ _ is in
     let fit = (and_parts _ _ tests.0).1 in
     let scheme = scheme_in p.scheme in
     let known = scheme_settles scheme in
-    let authority = authority_settles scheme p.authority tests.1 in
+    let authority = authority_settles plain lowered scheme p.authority tests.1 in
     let w = parts_written p in
     let fit_again : fits (scheme_in w.scheme) (is_some w.authority) w.path ≡ true =
     ap (λ s. fits s (is_some w.authority) w.path) known.1 ∙ ap (λ t. fits scheme t w.path) (is_some_map (authority_written scheme) p.authority)
@@ -295,27 +296,27 @@ query_inside query q e =
     (normalised_all stays_in_query is_in_query (λ b is. unlike stays_in_query 0x23 b query_marks is)
     (λ b is. unlike is_unreserved 0x23 b refl is) (λ b is. unlike is_escape_byte 0x23 b refl is) there.0)
 
-parts_again : (p : Parts) → IsPlaced p.scheme p.authority p.path → has_reading p ≡ true → parts_of (uri_text (reading_of p)) ≡ parts_written p
+parts_again : HostsArePlain → (p : Parts) → IsPlaced p.scheme p.authority p.path → has_reading p ≡ true → parts_of (uri_text (reading_of p)) ≡ parts_written p
 unfolding has_reading
-parts_again p placed is =
+parts_again plain p placed is =
     let tests = and_parts _ _ is in
     let known = (and_parts _ _ tests.0).0 in
     let w = parts_written p in
     ap parts_of (text_written p)
     ∙ cut_again (scheme_in p.scheme) w.authority w.path w.query w.fragment (placed_again p known placed)
-    (written_inside (scheme_in p.scheme) p.authority tests.1) (query_inside p.query)
+    (written_inside plain (scheme_in p.scheme) p.authority tests.1) (query_inside p.query)
 
-settled : (p : Parts) → IsPlaced p.scheme p.authority p.path → EachPart (λ t. are_bytes t ≡ true) p → has_reading p ≡ true → uri_of (uri_text (reading_of p)) ≡ Some (reading_of p)
+settled : HostsArePlain → HostsAreLowered → (p : Parts) → IsPlaced p.scheme p.authority p.path → EachPart (λ t. are_bytes t ≡ true) p → has_reading p ≡ true → uri_of (uri_text (reading_of p)) ≡ Some (reading_of p)
 unfolding uri_of uri_of_parts
-settled p placed bytes is =
-    let read = read_written p bytes is in
-    ap (λ t. uri_of_parts (parts_of t)) (tidied_same (uri_text (reading_of p)) (text_bytes p is))
-    ∙ ap uri_of_parts (parts_again p placed is) ∙ cond-true _ _ _ read.0 ∙ ap Some read.1
+settled plain lowered p placed bytes is =
+    let read = read_written plain lowered p bytes is in
+    ap (λ t. uri_of_parts (parts_of t)) (tidied_same (uri_text (reading_of p)) (text_bytes plain p is))
+    ∙ ap uri_of_parts (parts_again plain p placed is) ∙ cond-true _ _ _ read.0 ∙ ap Some read.1
 
-pub read_again : (raw : List ℕ) (uri : PlainUri) → IsUtf8 raw → uri_of raw ≡ Some uri → uri_of (uri_text uri) ≡ Some uri
+pub read_again : HostsArePlain → HostsAreLowered → (raw : List ℕ) (uri : PlainUri) → IsUtf8 raw → uri_of raw ≡ Some uri → uri_of (uri_text uri) ≡ Some uri
 unfolding uri_of
-read_again raw uri is e =
+read_again plain lowered raw uri is e =
     let text = tidied raw in
     let read = read_from (parts_of text) uri e in
     subst (λ u. uri_of (uri_text u) ≡ Some u) (sym read.1)
-    (settled (parts_of text) (parts_placed text) (each_part (λ t. are_bytes t ≡ true) bytes_take bytes_drop text (tidied_bytes raw (utf8_bytes raw is))) read.0)
+    (settled plain lowered (parts_of text) (parts_placed text) (each_part (λ t. are_bytes t ≡ true) bytes_take bytes_drop text (tidied_bytes raw (utf8_bytes raw is))) read.0)

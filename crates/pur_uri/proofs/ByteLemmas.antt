@@ -1,7 +1,7 @@
 -- The bytes of a text are numbers below 256.
-use Rattle.std.proofs.Common.{◌≡◌, ◌⊎◌, ℕ, ◌+◌, ◌-◌, ◌<◌, ◌≤◌, Bool, true, false, List, [], ◌∷◌, ◌++◌, length, take, drop, filter, Option, Some, None, IsUtf8, encode_utf8, encode_utf8_all, refl, sym, ap, subst, ◌∙◌, arith, inl, inr, ⊎_elim}
+use Rattle.std.proofs.Common.{◌≡◌, ℕ, ◌+◌, ◌-◌, ◌<◌, ◌≤◌, Bool, true, List, [], ◌∷◌, length, take, drop, filter, IsUtf8, encode_utf8, encode_utf8_all, refl, subst, arith, ⊎_elim}
 use lib.Utf8.{scalar, scalars, scalar_cases}
-use Rattle.std.specs.Prelude.{◌&&◌, ◌/◌, ◌%◌, nat_lt, if◌then◌else◌}
+use Rattle.std.specs.Prelude.{◌/◌, ◌%◌, nat_lt}
 use Rattle.std.specs.List.{list_all, prefix_len, suffix_len}
 use Rattle.std.proofs.lemmas.Bool.{and_parts, and_from, lt-ltb}
 use Rattle.pur_laws.proofs.Lists.{all-append, all-take, all-drop, all-filter}

@@ -1,9 +1,9 @@
 -- No `/*` comes about by reading a text.
-use Rattle.std.proofs.Common.{◌≡◌, ◌⊎◌, ℕ, zero, suc, ◌+◌, ◌-◌, ◌<◌, ◌≤◌, Bool, true, false, List, [], ◌∷◌, ◌++◌, length, take, drop, slice_index, filter, Option, Some, None, option_map, refl, sym, ap, subst, ◌∙◌, arith, inl, inr, ⊎_elim, append_assoc}
-use Rattle.std.specs.Prelude.{◌==◌, ◌&&◌, ◌||◌, not, codes}
+use Rattle.std.proofs.Common.{◌≡◌, ℕ, zero, suc, ◌-◌, Bool, true, false, List, [], ◌∷◌, ◌++◌, length, take, drop, Option, Some, None, option_map, refl, sym, ap, subst, ◌∙◌, ⊎_elim, append_assoc}
+use Rattle.std.specs.Prelude.{◌==◌, ◌&&◌, ◌||◌, not}
 use Rattle.std.specs.List.{list_all, prefix_len, suffix_len}
 use Rattle.std.specs.Option.{option_map_or}
-use Rattle.std.proofs.lemmas.Bool.{cases_Bool, cond-true, cond-false, and_parts, and_from, not-true}
+use Rattle.std.proofs.lemmas.Bool.{cases_Bool, cond-true, cond-false, and_parts, not-true}
 use Rattle.percent_encoding.specs.Percent.{percent_encode_byte, is_escape}
 use Rattle.pur_laws.proofs.Lists.{all-weaker}
 use Rattle.pur_laws.proofs.Truth.{and_false}
@@ -16,10 +16,10 @@ use Rattle.pur_uri.specs.Escapes.{is_unreserved, stays_in_path, stays_in_query, 
 use Rattle.pur_uri.specs.Private.Fronts.{escape_in_front}
 use Rattle.pur_uri.specs.Laws.{has_comment}
 use Rattle.pur_uri.specs.Uris.{PlainUri, scheme_in, has_reading, reading_of, uri_of, uri_text, scheme_text, host_text, port_text, query_text, fragment_text}
-use Rattle.pur_uri.proofs.AgainLemmas.{authority_written, parts_written, text_of_parts, text_written, authority_read, written_inside}
-use Rattle.pur_uri.proofs.AsciiLemmas.{is_host_byte, host_bytes}
+use Rattle.pur_uri.proofs.AgainLemmas.{authority_written, parts_written, text_written, authority_read, written_inside}
+use Rattle.pur_uri.proofs.AsciiLemmas.{HostsArePlain, is_host_byte, host_bytes}
 use Rattle.pur_uri.proofs.CuttingLemmas.{differs, unlike, filter_same}
-use Rattle.pur_uri.proofs.EscapeLemmas.{is_escape_byte, written_all, normalised_byte, normalised_escape}
+use Rattle.pur_uri.proofs.EscapeLemmas.{is_escape_byte, written_all, normalised_byte}
 use Rattle.pur_uri.proofs.PieceLemmas.{EachPart, each_part}
 use Rattle.pur_uri.proofs.SettlingLemmas.{first_kept}
 use Rattle.pur_uri.proofs.TextLemmas.{read_from}
@@ -146,21 +146,21 @@ free_tail None fragment free later = later
 free_tail (Some q) fragment free later =
     free_join (normalised stays_in_query q) (fragment_text fragment) (free_normalised stays_in_query star_stays.1 q (free q refl)) later (fragment_star fragment)
 
-host_star : (host rest : List ℕ) → is_host host ≡ true → begins_with 0x2A (host ++ rest) ≡ false
+host_star : HostsArePlain → (host rest : List ℕ) → is_host host ≡ true → begins_with 0x2A (host ++ rest) ≡ false
 unfolding is_host
-host_star [] rest is = absurd (cc)
-host_star (b ∷ host) rest is = differs is_host_byte 0x2A b refl (and_parts (is_host_byte b) (list_all is_host_byte host) (host_bytes (b ∷ host) is)).0
+host_star plain [] rest is = absurd (cc)
+host_star plain (b ∷ host) rest is = differs is_host_byte 0x2A b refl (and_parts (is_host_byte b) (list_all is_host_byte host) (host_bytes plain (b ∷ host) is)).0
 
-free_authority : (scheme : Option SchemeName) (authority : Option (List ℕ)) (rest : List ℕ) → option_map_or is_authority authority true ≡ true
+free_authority : HostsArePlain → (scheme : Option SchemeName) (authority : Option (List ℕ)) (rest : List ℕ) → option_map_or is_authority authority true ≡ true
     → IsFree rest → IsFree (host_text (option_map (authority_written scheme) authority) ++ rest)
 unfolding has_comment
-free_authority scheme None rest is free = free
-free_authority scheme (Some a) rest is free =
+free_authority plain scheme None rest is free = free
+free_authority plain scheme (Some a) rest is free =
     let read = authority_read (Some a) a is refl in
     let port = port_text (port_of scheme (behind_host a)) in
-    let inside = written_inside scheme (Some a) is (authority_written scheme a) refl in
+    let inside = written_inside plain scheme (Some a) is (authority_written scheme a) refl in
     let star : begins_with 0x2A (authority_written scheme a ++ rest) ≡ false =
-    ap (begins_with 0x2A) (append_assoc (host_of a) port rest) ∙ host_star (host_of a) (port ++ rest) read.0 in
+    ap (begins_with 0x2A) (append_assoc (host_of a) port rest) ∙ host_star plain (host_of a) (port ++ rest) read.0 in
     or_none (begins_with 0x2A (authority_written scheme a ++ rest)) (has_comment (authority_written scheme a ++ rest)) star
     (free_run (authority_written scheme a) rest
     (all-weaker is_in_authority (λ b. not (b == 0x2F)) (λ b in_authority. (and_parts _ _ in_authority).0) (authority_written scheme a) inside) free)
@@ -176,9 +176,9 @@ free_scheme (Some Mailto) rest free = free
 free_scheme (Some News) rest free = free
 free_scheme (Some Tel) rest free = free
 
-free_text : (p : Parts) → EachPart IsFree p → has_reading p ≡ true → IsFree (uri_text (reading_of p))
+free_text : HostsArePlain → (p : Parts) → EachPart IsFree p → has_reading p ≡ true → IsFree (uri_text (reading_of p))
 unfolding has_reading
-free_text p each is =
+free_text plain p each is =
     let w = parts_written p in
     let fragment = free_fragment p.fragment each.fragment in
     let tail = free_tail p.query w.fragment each.query fragment in
@@ -186,14 +186,14 @@ free_text p each is =
     (tail_star w.query w.fragment) in
     ap has_comment (text_written p)
     ∙ free_scheme (scheme_in p.scheme) _
-    (free_authority (scheme_in p.scheme) p.authority (w.path ++ (query_text w.query ++ fragment_text w.fragment)) (and_parts _ _ is).1 rest)
+    (free_authority plain (scheme_in p.scheme) p.authority (w.path ++ (query_text w.query ++ fragment_text w.fragment)) (and_parts _ _ is).1 rest)
 
-pub free_tidied : (raw : List ℕ) (uri : PlainUri) → uri_of raw ≡ Some uri → IsFree (tidied raw) → IsFree (uri_text uri)
+pub free_tidied : HostsArePlain → (raw : List ℕ) (uri : PlainUri) → uri_of raw ≡ Some uri → IsFree (tidied raw) → IsFree (uri_text uri)
 unfolding uri_of
-free_tidied raw uri e free =
+free_tidied plain raw uri e free =
     let text = tidied raw in
     let read = read_from (parts_of text) uri e in
-    subst (λ u. IsFree (uri_text u)) (sym read.1) (free_text (parts_of text) (each_part IsFree free_take free_drop text free) read.0)
+    subst (λ u. IsFree (uri_text u)) (sym read.1) (free_text plain (parts_of text) (each_part IsFree free_take free_drop text free) read.0)
 
 tidied_free : (raw : List ℕ) → list_all is_kept raw ≡ true → IsFree raw → IsFree (tidied raw)
 unfolding tidied
@@ -202,5 +202,5 @@ tidied_free raw all free =
     ap (λ t. has_comment (without_outer_spaces t)) (filter_same is_kept raw all)
     ∙ free_take (length front - suffix_len is_blank front) front (free_drop (prefix_len is_blank raw) raw free)
 
-pub free_raw : (raw : List ℕ) (uri : PlainUri) → uri_of raw ≡ Some uri → list_all is_kept raw ≡ true → IsFree raw → IsFree (uri_text uri)
-free_raw raw uri e all free = free_tidied raw uri e (tidied_free raw all free)
+pub free_raw : HostsArePlain → (raw : List ℕ) (uri : PlainUri) → uri_of raw ≡ Some uri → list_all is_kept raw ≡ true → IsFree raw → IsFree (uri_text uri)
+free_raw plain raw uri e all free = free_tidied plain raw uri e (tidied_free raw all free)

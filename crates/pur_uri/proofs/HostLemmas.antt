@@ -1,23 +1,22 @@
 -- An authority that was written is read as the same host and port.
-use Rattle.std.proofs.Common.{◌≡◌, ◌⊎◌, ℕ, zero, suc, ◌+◌, ◌*◌, ◌-◌, ◌^◌, ◌<◌, ◌≤◌, Bool, true, false, List, [], ◌∷◌, ◌++◌, length, take, drop, slice_index, Option, Some, None, refl, sym, ap, subst, ◌∙◌, arith, inl, inr, ⊎_elim, append_assoc, append-nil, take-append-drop}
-use Rattle.std.specs.Prelude.{◌==◌, ◌&&◌, ◌||◌, not, nat_le, codes, decimal, reverse, if◌then◌else◌}
+use Rattle.std.proofs.Common.{◌≡◌, ℕ, suc, ◌+◌, ◌-◌, ◌^◌, ◌<◌, ◌≤◌, Bool, true, false, List, [], ◌∷◌, ◌++◌, length, take, drop, Option, Some, None, refl, sym, ap, subst, ◌∙◌, arith, ⊎_elim, append_assoc, append-nil}
+use Rattle.std.specs.Prelude.{◌==◌, ◌&&◌, ◌||◌, not, nat_le, decimal, reverse}
 use Rattle.std.specs.List.{list_all, prefix_len, suffix_len}
 use Rattle.std.specs.Str.{str_to_ascii_lowercase}
 use Rattle.std.specs.Str.Parse.{digits_value}
 use Rattle.std.proofs.Math.Seq.{drop-append_seam, take-append_seam}
-use Rattle.std.proofs.lemmas.Bool.{cases_Bool, cond-true, cond-false, and_parts, and_from, eqb-true, lt-leb, le-leb}
+use Rattle.std.proofs.lemmas.Bool.{cases_Bool, cond-true, cond-false, and_parts, and_from, lt-leb, le-leb}
 use Rattle.std.proofs.lemmas.Fmt.{decimal_is_IsNumeral, decimal_nonempty}
-use Rattle.std.proofs.lemmas.List.{length-reverse, length-append, drop_more, drop_all}
+use Rattle.std.proofs.lemmas.List.{length-reverse, length-append}
 use Rattle.pur_laws.proofs.Ends.{front_len}
 use Rattle.pur_laws.proofs.Lists.{all-append, all-reverse, all-weaker}
 use Rattle.pur_laws.proofs.Tests.{not_empty}
 use Rattle.pur_names.specs.declared.schemes.SchemeName.{SchemeName}
 use Rattle.pur_text.specs.Hosts.{is_host, is_digit, is_name_byte, is_ip6_byte, is_bracketed}
-use Rattle.pur_text.proofs.HostLaws.{host_plain, host_lowered}
 use Rattle.pur_uri.specs.Splitting.{is_in_authority, begins_with}
 use Rattle.pur_uri.specs.Authorities.{without_user, host_len, host_of, behind_host, is_authority, is_port, port_of, port_value, is_default_port}
 use Rattle.pur_uri.specs.Uris.{port_text}
-use Rattle.pur_uri.proofs.AsciiLemmas.{is_host_byte, host_bytes}
+use Rattle.pur_uri.proofs.AsciiLemmas.{HostsArePlain, HostsAreLowered, is_host_byte, bracketed, host_cases, host_bytes}
 use Rattle.pur_uri.proofs.CuttingLemmas.{differs, unlike}
 use Rattle.pur_uri.proofs.TextLemmas.{decimal_digits, port_small}
 
@@ -37,11 +36,11 @@ digits_pass q follows colon scheme (Some n) kept =
     and_from _ _ colon (all-weaker is_digit q follows (decimal n) (decimal_digits n (short n (kept n refl).0)))
 
 -- an authority has no `@`, `/`, `?` and `#`
-module _ (host : List ℕ) (is : is_host host ≡ true) (scheme : Option SchemeName) (port : Option ℕ) (kept : IsKeptPort scheme port) where
+module _ (plain : HostsArePlain) (host : List ℕ) (is : is_host host ≡ true) (scheme : Option SchemeName) (port : Option ℕ) (kept : IsKeptPort scheme port) where
   authority_pass : (q : ℕ → Bool) → ((b : ℕ) → is_host_byte b ≡ true → q b ≡ true) → ((b : ℕ) → is_digit b ≡ true → q b ≡ true) → q 0x3A ≡ true
       → list_all q (host ++ port_text port) ≡ true
   authority_pass q of_host of_digit colon =
-      all-append q host (port_text port) (all-weaker is_host_byte q of_host host (host_bytes host is)) (digits_pass q of_digit colon scheme port kept)
+      all-append q host (port_text port) (all-weaker is_host_byte q of_host host (host_bytes plain host is)) (digits_pass q of_digit colon scheme port kept)
 
   pub authority_inside : list_all is_in_authority (host ++ port_text port) ≡ true
   authority_inside = authority_pass is_in_authority
@@ -81,32 +80,6 @@ name_len host port all = cond-false _ _ _ (no_bracket host port all)
     ∙ front_len (λ b. not (b == 0x3A)) host (port_text port)
     (all-weaker is_name_byte (λ b. not (b == 0x3A)) (λ b is. unlike is_name_byte 0x3A b refl is) host all) (port_stop port)
 
--- brackets, and what stands between them
-bracketed : (host : List ℕ) → is_bracketed host ≡ true → (inner : List ℕ) × ((host ≡ 0x5B ∷ (inner ++ 0x5D ∷ [])) × (list_all is_ip6_byte inner ≡ true))
-bracketed [] is = absurd (cc)
-bracketed (x ∷ []) is =
-    let ends = and_parts _ _ (and_parts _ _ is).0 in
-    let first : x ≡ 0x5B = eqb-true _ _ ends.0 in
-    let last : x ≡ 0x5D = eqb-true _ _ ends.1 in
-    absurd (omega arith)
-bracketed (x ∷ y ∷ rest) is =
-    let text = y ∷ rest in
-    let n = length rest in
-    let inside : length (x ∷ y ∷ rest) - 2 ≡ n = omega arith in
-    let to_end : length (x ∷ y ∷ rest) - 1 ≡ suc n = omega arith in
-    let parts = and_parts _ _ is in
-    let ends = and_parts _ _ parts.0 in
-    let first : x ≡ 0x5B = eqb-true _ _ ends.0 in
-    let end : slice_index text n ≡ 0x5D = subst (λ m. slice_index (x ∷ y ∷ rest) m ≡ 0x5D) to_end (eqb-true _ _ ends.1) in
-    let tail : drop n text ≡ 0x5D ∷ [] = drop_more text n 0 (omega arith) ∙ ap (λ b. b ∷ drop (n + 1) text) end
-    ∙ ap (λ t. 0x5D ∷ t) (drop_all (n + 1) text (omega arith)) in (
-      take n text,
-      (
-        ap (λ b. b ∷ text) first ∙ ap (λ t. 0x5B ∷ t) (sym (take-append-drop n text) ∙ ap (λ t. take n text ++ t) tail),
-        subst (λ m. list_all is_ip6_byte (take m text) ≡ true) inside parts.1,
-      ),
-    )
-
 literal_len : (host behind : List ℕ) → is_bracketed host ≡ true → host_len (host ++ behind) ≡ length host
 unfolding host_len
 literal_len host behind is =
@@ -121,16 +94,15 @@ literal_len host behind is =
     let len : length host ≡ suc (length inner + 1) = ap length shape.1.0 ∙ ap suc (length-append inner (0x5D ∷ [])) in
     cond-true _ _ _ first ∙ ap (λ n. n + 1) reach ∙ omega (arith, len)
 
-pub reach_again : (host : List ℕ) (port : Option ℕ) → is_host host ≡ true → host_len (host ++ port_text port) ≡ length host
-reach_again host port is = ⊎_elim
+reach_again : HostsArePlain → (host : List ℕ) (port : Option ℕ) → is_host host ≡ true → host_len (host ++ port_text port) ≡ length host
+reach_again plain host port is = ⊎_elim
     (λ (name : list_all is_name_byte host ≡ true). name_len host port name)
-    (λ (other : list_all is_name_byte host ≡ false).
-    literal_len host (port_text port) (ap (λ b. b || is_bracketed host) (sym other) ∙ host_plain host is))
-    (cases_Bool (list_all is_name_byte host))
+    (λ (literal : is_bracketed host ≡ true). literal_len host (port_text port) literal)
+    (host_cases plain host is)
 
 -- ---- ports
 
-pub port_again : (scheme : Option SchemeName) (port : Option ℕ) → IsKeptPort scheme port
+port_again : (scheme : Option SchemeName) (port : Option ℕ) → IsKeptPort scheme port
     → (is_port (port_text port) ≡ true) × (port_of scheme (port_text port) ≡ port)
 unfolding is_port port_of port_value
 port_again scheme None kept = (refl, refl)
@@ -168,20 +140,20 @@ port_kept scheme text is = λ n e. (port_small scheme text n is e, other_port sc
 -- ---- an authority
 
 -- the host and the port of what they are written as
-module _ (host : List ℕ) (is : is_host host ≡ true) (scheme : Option SchemeName) (port : Option ℕ) (kept : IsKeptPort scheme port) where
+module _ (plain : HostsArePlain) (lowered : HostsAreLowered) (host : List ℕ) (is : is_host host ≡ true) (scheme : Option SchemeName) (port : Option ℕ) (kept : IsKeptPort scheme port) where
   bare : without_user (host ++ port_text port) ≡ host ++ port_text port
-  bare = no_user (host ++ port_text port) (authority_bare host is scheme port kept)
+  bare = no_user (host ++ port_text port) (authority_bare plain host is scheme port kept)
 
   pub host_again : host_of (host ++ port_text port) ≡ host
   unfolding host_of
   host_again =
       ap (λ t. str_to_ascii_lowercase (take (host_len t) t)) bare
-      ∙ ap (λ n. str_to_ascii_lowercase (take n (host ++ port_text port))) (reach_again host port is)
-      ∙ ap str_to_ascii_lowercase (take-append_seam host (port_text port)) ∙ host_lowered host is
+      ∙ ap (λ n. str_to_ascii_lowercase (take n (host ++ port_text port))) (reach_again plain host port is)
+      ∙ ap str_to_ascii_lowercase (take-append_seam host (port_text port)) ∙ lowered host is
 
-  pub behind_again : behind_host (host ++ port_text port) ≡ port_text port
+  behind_again : behind_host (host ++ port_text port) ≡ port_text port
   behind_again =
-      ap (λ t. drop (host_len t) t) bare ∙ ap (λ n. drop n (host ++ port_text port)) (reach_again host port is)
+      ap (λ t. drop (host_len t) t) bare ∙ ap (λ n. drop n (host ++ port_text port)) (reach_again plain host port is)
       ∙ drop-append_seam host (port_text port)
 
   pub authority_again : is_authority (host ++ port_text port) ≡ true

@@ -1,11 +1,11 @@
 -- What holds of the parts that a text is cut into.
-use Rattle.std.proofs.Common.{◌≡◌, ◌⊎◌, ℕ, zero, suc, ◌+◌, ◌-◌, ◌<◌, ◌≤◌, Bool, true, false, List, [], ◌∷◌, ◌++◌, length, take, drop, slice_index, Option, Some, None, refl, sym, ap, subst, ◌∙◌, arith, inl, inr, ⊎_elim, take-append-drop}
-use Rattle.std.specs.Prelude.{◌==◌, ◌&&◌, ◌||◌, not, if◌then◌else◌}
+use Rattle.std.proofs.Common.{◌≡◌, ℕ, zero, suc, ◌+◌, Bool, true, false, List, [], ◌∷◌, ◌++◌, take, drop, Option, Some, None, refl, sym, ap, ◌∙◌, arith, ⊎_elim, take-append-drop}
+use Rattle.std.specs.Prelude.{◌==◌, ◌&&◌, not, if◌then◌else◌}
 use Rattle.std.specs.List.{list_all, prefix_len}
 use Rattle.std.proofs.lemmas.Bool.{cases_Bool, cond-true, cond-false}
 use Rattle.pur_laws.proofs.Ends.{front_gone}
 use Rattle.pur_laws.proofs.Lists.{all-prefix}
-use Rattle.pur_uri.specs.Splitting.{Parts, is_in_query, is_in_path, is_in_authority, is_in_scheme, front, behind, begins_with, has_scheme, scheme_part, behind_scheme, has_authority, authority_part, behind_authority, path_part, behind_path, parts_of}
+use Rattle.pur_uri.specs.Splitting.{is_in_path, is_in_authority, is_in_scheme, begins_with, has_scheme, scheme_part, behind_scheme, has_authority, authority_part, behind_authority, path_part, behind_path, parts_of}
 use Rattle.pur_uri.proofs.CuttingLemmas.{is_not, colon_ahead, has_scheme_as, ahead_more, ahead_stop, tail_ahead}
 
 -- a text that begins with none of a class

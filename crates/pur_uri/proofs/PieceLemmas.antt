@@ -1,5 +1,5 @@
 -- What holds of a text, and of each front and each end of what it holds of, holds of path, query and fragment.
-use Rattle.std.proofs.Common.{◌≡◌, ℕ, Bool, true, false, List, take, drop, Option, Some, None, refl, subst}
+use Rattle.std.proofs.Common.{◌≡◌, ℕ, Bool, true, false, List, take, drop, Some, None, subst}
 use Rattle.std.specs.Prelude.{if◌then◌else◌}
 use Rattle.std.specs.List.{prefix_len}
 use Rattle.pur_uri.specs.Splitting.{Parts, is_in_path, is_in_authority, is_in_scheme, is_in_query, has_scheme, behind_scheme, has_authority, behind_authority, behind_path, behind, begins_with, query_part, behind_query, fragment_part, parts_of}
