@@ -78,4 +78,10 @@ KINDS = {
     "bold that is carried": repeated(b"<p>x", head=b"<b>" * 100),
     "cells without rows": repeated(b"<td>a", head=b"<table>"),
     "nested lists": repeated(b"<ul>a"),
+    "lists without items": repeated(b"<ul></ul>"),
+    "rows of a table": repeated(b"<tr><td>a", head=b"<table>"),
+    "rows and bodies in turn": repeated(b"<tr><td>a<tbody><tr><td>b</tbody>", head=b"<table>"),
+    "surplus heads": repeated(b"<thead><tr><td>a</thead>", head=b"<table>"),
+    "surplus captions": repeated(b"<caption>a</caption>", head=b"<table>"),
+    "tables in tables": repeated(b"<table><tr><td>a"),
 }
