@@ -1,10 +1,8 @@
 -- Where a table has bodies it has rows.
-use Rattle.std.proofs.Common.{◌≡◌, ◌<◌, ◌⊎◌, inl, inr, length, [], ◌∷◌, Bool, true, false, not, ◌&&◌, refl, ap, ◌∙◌, subst, arith}
-use Rattle.std.specs.Prelude.{if◌then◌else◌}
-use Rattle.pur_text.specs.Characters.{is_blank}
+use Rattle.std.proofs.Common.{◌≡◌, ◌⊎◌, inl, inr, [], ◌∷◌, Bool, true, false, subst}
+use Rattle.pur_laws.proofs.Truth.{either}
 use Rattle.pur_names.specs.declared.elements.Element.TheVariants.{Tbody, Tr}
 use Rattle.pur_names.specs.Elements.{same_element}
-use Rattle.pur_modules.specs.declared.kinds.Child.TheVariants.{Text}
 use Rattle.pur_modules.specs.declared.kinds.Content.TheVariants.{TableParts, Rows}
 use Rattle.pur_modules.specs.declared.kinds.Doctype.{Doctype}
 use Rattle.pur_modules.specs.Contents.{content_held}
@@ -12,39 +10,17 @@ use Rattle.pur_modules.specs.Expressions.{has_text_letter}
 use Rattle.pur_models.specs.Languages.{Language}
 use Rattle.pur_models.specs.Laws.{may_be_empty}
 use Rattle.pur_models.proofs.WordLemmas.{empty_if}
-use Rattle.pur_tree.specs.Nodes.{plain_elem, bare, Nodes, no_nodes, text_first, elem_first, nodes_append, has_no_nodes}
+use Rattle.pur_tree.specs.Nodes.{PlainElem, bare, Nodes, no_nodes, text_first, elem_first, nodes_append, has_no_nodes}
 use Rattle.pur_tree.specs.Properties.{Holds, letters}
 use Rattle.pur_tree.specs.Words.{word_of, IsWord, HaveWords}
-use Rattle.pur_nesting.specs.declared.roles.Role.{Role}
-use Rattle.pur_nesting.specs.declared.roles.Role.TheVariants.{Title, Column, ColumnGroup, Header, Footer, Body, Row, Stranger}
 use Rattle.pur_nesting.specs.declared.roles.Part.{Part}
 use Rattle.pur_nesting.specs.declared.roles.Met.{Met}
 use Rattle.pur_nesting.specs.Parts.{role_of, same_part, next, part}
-use Rattle.pur_nesting.specs.Tables.{has_child, from_first_element, is_head_or_foot, as_body, as_bodies, run_of_rows, runs_in_bodies, of_one_kind}
-use Rattle.pur_nesting.proofs.RoleLemmas.{of_role}
-use Rattle.pur_nesting.proofs.LetterLemmas.{held_rows, no_text, at_kind}
+use Rattle.pur_nesting.specs.Tables.{has_child, from_first_element, as_body, as_bodies, run_of_rows, runs_in_bodies, of_one_kind}
+use Rattle.pur_nesting.proofs.LetterLemmas.{no_text, at_kind}
 use Rattle.pur_nesting.proofs.OneLemmas.{NoElems}
-use Rattle.pur_nesting.proofs.BlankLemmas.{Blank-letters, word-NoElems}
-
--- there is an element
-abbrev pub HasElems : Nodes → Type 0
-HasElems no_nodes = ⊥
-HasElems (text_first s f) = HasElems f
-HasElems (elem_first e kids f) = Unit {0}
-
-elems_or_none : (f : Nodes) → HasElems f ⊎ NoElems f
-elems_or_none no_nodes = inr tt
-elems_or_none (text_first s f) = elems_or_none f
-elems_or_none (elem_first e kids f) = inl tt
-
-pub word-HasElems : (t : Bool) (f : Nodes) → HasElems f → 0 < length (word_of t f)
-word-HasElems t no_nodes s = absurd s
-word-HasElems t (text_first x f) s = go (not t && is_blank x) (word-HasElems t f s)
-  where
-    go : (b : Bool) → 0 < length (word_of t f) → 0 < length (if b then word_of t f else (Text ∷ word_of t f))
-    go true r = r
-    go false r = omega arith
-word-HasElems t (elem_first e kids f) s = omega arith
+use Rattle.pur_nesting.proofs.BlankLemmas.{Blank-letters, word-NoElems, HasElems, elems_or_none}
+use Rattle.pur_nesting.proofs.TableLemmas.{in_part, each_body}
 
 HasElems-append : (f g : Nodes) → HasElems f → HasElems (nodes_append f g)
 HasElems-append no_nodes g s = absurd s
@@ -61,10 +37,10 @@ HasElems-rows : (d : Doctype) (kids : Nodes) → Holds (letters d) Rows kids →
 HasElems-rows d kids h w = go (elems_or_none kids)
   where
     go : HasElems kids ⊎ NoElems kids → HasElems kids
-    go (inl s) = s
-    go (inr n) =
-        let none : word_of (has_text_letter d Rows) kids ≡ [] = rw (no_text d).0 (word-NoElems kids (Blank-letters d Rows kids (no_text d).0 h) n) in
-        let k : may_be_empty Rows ≡ true = empty_if d Rows (subst (λ x. Language d Rows x) none w) in absurd (cc)
+    go (inl some) = some
+    go (inr none) =
+        let word : word_of (has_text_letter d Rows) kids ≡ [] = rw (no_text d).0 (word-NoElems kids (Blank-letters d Rows kids (no_text d).0 h) none) in
+        let empty : may_be_empty Rows ≡ true = empty_if d Rows (subst (λ x. Language d Rows x) word w) in absurd (cc)
 
 -- it begins with an element
 abbrev pub Begins : Nodes → Type 0
@@ -75,46 +51,33 @@ Begins (elem_first e kids f) = Unit {0}
 pub Begins-part : (w : Part) (m : Met) (f : Nodes) → same_part w m.part ≡ false → has_no_nodes (part w m f) ≡ false → Begins (part w m f)
 Begins-part w m no_nodes p h = absurd (cc)
 Begins-part w m (text_first s f) p h = rw p (Begins-part w m f p (rw p at h))
-Begins-part w m (elem_first e kids f) p h = go (same_part w (next m (role_of e.name)).part) refl (λ k. Begins-part w (next m (role_of e.name)) f k) h
-  where
-    go : (b : Bool) → same_part w (next m (role_of e.name)).part ≡ b
-        → (same_part w (next m (role_of e.name)).part ≡ false → has_no_nodes (part w (next m (role_of e.name)) f) ≡ false → Begins (part w (next m (role_of e.name)) f))
-        → has_no_nodes (if b then elem_first e kids (part w (next m (role_of e.name)) f) else part w (next m (role_of e.name)) f) ≡ false
-        → Begins (if b then elem_first e kids (part w (next m (role_of e.name)) f) else part w (next m (role_of e.name)) f)
-    go true is r k = tt
-    go false is r k = r is k
+Begins-part w m (elem_first e kids f) p h =
+    let n : Met = next m (role_of e.name) in
+    in_part (λ g. has_no_nodes g ≡ false → Begins g) w n.part (elem_first e kids (part w n f)) (part w n f)
+    (λ there k. tt) (λ other k. Begins-part w n f other k) h
 
-pub HasElems-as_bodies : (d : Doctype) (tbody : Bool) (f : Nodes) → Begins f → Holds (letters d) TableParts f → HaveWords d TableParts f → HasElems (as_bodies tbody f)
+HasElems-as_body : (d : Doctype) (tbody : Bool) (e : PlainElem) (kids : Nodes) → Holds (letters d) (content_held d e.name TableParts) kids
+    → IsWord d (content_held d e.name TableParts) kids → HasElems (as_body tbody e kids)
+HasElems-as_body d tbody e kids l w =
+    each_body HasElems d tbody e kids (λ rows. tt) (
+    λ rows. let letters_of_rows = at_kind d (content_held d e.name TableParts) Rows kids rows l in
+    let word = subst (λ x. IsWord d x kids) rows w in
+    HasElems-from_first_element kids (HasElems-rows d kids letters_of_rows word)
+    ) (λ other. tt)
+
+pub HasElems-as_bodies : (d : Doctype) (tbody : Bool) (f : Nodes) → Begins f → Holds (letters d) TableParts f → HaveWords d TableParts f
+    → HasElems (as_bodies tbody f)
 HasElems-as_bodies d tbody no_nodes b h w = absurd b
 HasElems-as_bodies d tbody (text_first s f) b h w = absurd b
-HasElems-as_bodies d tbody (elem_first e kids f) b h w = HasElems-append (as_body tbody e kids) (as_bodies tbody f) (go (role_of e.name) refl tbody)
-  where
-    rows : (b : Bool) → content_held d e.name TableParts ≡ Rows → HasElems (if b then elem_first (plain_elem Tbody e.attrs) kids no_nodes else from_first_element kids)
-    rows true same = tt
-    rows false same = HasElems-from_first_element kids (HasElems-rows d kids (at_kind d (content_held d e.name TableParts) Rows kids same h.1) (subst (λ x. IsWord d x kids) same w.0))
-
-    go : (r : Role) → role_of e.name ≡ r → (b : Bool) → HasElems (if is_head_or_foot r then (if b then elem_first (plain_elem Tbody e.attrs) kids no_nodes else from_first_element kids) else elem_first e kids no_nodes)
-    go Header is b = rows b (ap (λ x. content_held d x TableParts) (of_role e.name Header is refl) ∙ (held_rows d TableParts).0)
-    go Footer is b = rows b (ap (λ x. content_held d x TableParts) (of_role e.name Footer is refl) ∙ (held_rows d TableParts).1)
-    go Title is b = tt
-    go Column is b = tt
-    go ColumnGroup is b = tt
-    go Body is b = tt
-    go Row is b = tt
-    go Stranger is b = tt
+HasElems-as_bodies d tbody (elem_first e kids f) b h w =
+    HasElems-append (as_body tbody e kids) (as_bodies tbody f) (HasElems-as_body d tbody e kids h.1 w.0)
 
 HasElems-runs : (f : Nodes) → HasElems f → HasElems (runs_in_bodies false f)
 HasElems-runs no_nodes s = s
 HasElems-runs (text_first x f) s = HasElems-runs f s
-HasElems-runs (elem_first e kids f) s = go (same_element e.name Tr)
-  where
-    go : (b : Bool) → HasElems (if b then elem_first (bare Tbody) (elem_first e kids (run_of_rows f)) (runs_in_bodies true f) else elem_first e kids (runs_in_bodies false f))
-    go true = tt
-    go false = tt
+HasElems-runs (elem_first e kids f) s =
+    either HasElems (same_element e.name Tr) (elem_first (bare Tbody) (elem_first e kids (run_of_rows f)) (runs_in_bodies true f))
+    (elem_first e kids (runs_in_bodies false f)) tt tt
 
 pub HasElems-of_one_kind : (f : Nodes) → HasElems f → HasElems (of_one_kind f)
-HasElems-of_one_kind f s = go (has_child (Tbody ∷ []) f)
-  where
-    go : (b : Bool) → HasElems (if b then runs_in_bodies false f else f)
-    go true = HasElems-runs f s
-    go false = s
+HasElems-of_one_kind f s = either HasElems (has_child (Tbody ∷ []) f) (runs_in_bodies false f) f (HasElems-runs f s) s

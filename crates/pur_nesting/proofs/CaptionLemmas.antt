@@ -1,7 +1,6 @@
 -- Where captions and columns stand, captions alone have characters other than white space.
-use Rattle.std.proofs.Common.{◌≡◌, ℕ, ◌+◌, Bool, true, false, not, ◌||◌, refl, ap, ◌∙◌, arith}
-use Rattle.std.specs.Prelude.{if◌then◌else◌}
-use Rattle.pur_text.specs.Characters.{is_space}
+use Rattle.std.proofs.Common.{◌≡◌, ℕ, List, Bool, true, false, not, ◌||◌, refl, ap, ◌∙◌, arith}
+use Rattle.pur_text.specs.Characters.{is_space, is_blank}
 use Rattle.pur_names.specs.declared.elements.Element.{Element}
 use Rattle.pur_names.specs.declared.elements.Element.TheVariants.{Caption, Col, Colgroup}
 use Rattle.pur_names.specs.Elements.{same_element}
@@ -46,17 +45,34 @@ held_columns : (d : Doctype) (k : Content) → (content_held d Col k ≡ Nothing
 unfolding content_held
 held_columns d k = (refl, refl)
 
+-- a text of white space counts nothing
+blank_first : (c : ℕ) (s : List ℕ) (f : Nodes) → is_space c ≡ false → is_blank s ≡ true → count_in_text c (text_first s f) ≡ count_in_text c f
+blank_first c s f other blank = omega (arith, none_in_space c s other blank)
+
 count_in_text-nothing : (c : ℕ) (d : Doctype) (f : Nodes) → is_space c ≡ false → Holds (letters d) Nothing f → count_in_text c f ≡ 0
 count_in_text-nothing c d no_nodes other h = refl
-count_in_text-nothing c d (text_first s f) other h = omega (arith, none_in_space c s other (space_in d Nothing s (nothing_text d).0 h.0), count_in_text-nothing c d f other h.1)
+count_in_text-nothing c d (text_first s f) other h =
+    blank_first c s f other (space_in d Nothing s (nothing_text d).0 h.0) ∙ count_in_text-nothing c d f other h.1
 count_in_text-nothing c d (elem_first e kids f) other h = let none = nothing_letter d e.name in let some = h.0 in absurd (cc)
+
+count_in_text-col : (c : ℕ) (d : Doctype) (k : Content) (e : Element) (kids : Nodes) → is_space c ≡ false → e ≡ Col
+    → Holds (letters d) (content_held d e k) kids → count_in_text c kids ≡ 0
+count_in_text-col c d k e kids other named h =
+    let held = ap (λ x. content_held d x k) named ∙ (held_columns d k).0 in
+    count_in_text-nothing c d kids other (at_kind d (content_held d e k) Nothing kids held h)
 
 count_in_text-cols : (c : ℕ) (d : Doctype) (f : Nodes) → is_space c ≡ false → Holds (letters d) Cols f → count_in_text c f ≡ 0
 count_in_text-cols c d no_nodes other h = refl
-count_in_text-cols c d (text_first s f) other h = omega (arith, none_in_space c s other (space_in d Cols s (nothing_text d).1 h.0), count_in_text-cols c d f other h.1)
+count_in_text-cols c d (text_first s f) other h =
+    blank_first c s f other (space_in d Cols s (nothing_text d).1 h.0) ∙ count_in_text-cols c d f other h.1
 count_in_text-cols c d (elem_first e kids f) other h =
-    let inner : count_in_text c kids ≡ 0 = count_in_text-nothing c d kids other (at_kind d (content_held d e.name Cols) Nothing kids (ap (λ x. content_held d x Cols) (only_columns d e.name h.0) ∙ (held_columns d Cols).0) h.1) in
-    omega (arith, inner, count_in_text-cols c d f other h.2)
+    omega (arith, count_in_text-col c d Cols e.name kids other (only_columns d e.name h.0) h.1, count_in_text-cols c d f other h.2)
+
+count_in_text-colgroup : (c : ℕ) (d : Doctype) (k : Content) (e : Element) (kids : Nodes) → is_space c ≡ false → e ≡ Colgroup
+    → Holds (letters d) (content_held d e k) kids → count_in_text c kids ≡ 0
+count_in_text-colgroup c d k e kids other named h =
+    let held = ap (λ x. content_held d x k) named ∙ (held_columns d k).1 in
+    count_in_text-cols c d kids other (at_kind d (content_held d e k) Cols kids held h)
 
 -- no stranger is a letter of a table
 strangers_are_none : (d : Doctype) (e : Element) → (not (is_letter d TableParts (Elem e)) || not (same_role (role_of e) Stranger)) ≡ true
@@ -104,20 +120,22 @@ Beside-side w no_nodes h fits = tt
 Beside-side w (text_first s f) h fits = Beside-side w f h fits
 Beside-side w (elem_first e kids f) h fits = (side_role w (role_of e.name) h fits.0, Beside-side w f h fits.1)
 
-pub count_in_text-captions : (c : ℕ) (d : Doctype) (f : Nodes) → is_space c ≡ false → Beside f → Holds (letters d) TableParts f → count_in_text c f ≡ count_in_captions c f
+pub count_in_text-captions : (c : ℕ) (d : Doctype) (f : Nodes) → is_space c ≡ false → Beside f → Holds (letters d) TableParts f
+    → count_in_text c f ≡ count_in_captions c f
 count_in_text-captions c d no_nodes other w h = refl
-count_in_text-captions c d (text_first s f) other w h = omega (arith, none_in_space c s other (space_in d TableParts s (no_text d).1 h.0), count_in_text-captions c d f other w h.1)
+count_in_text-captions c d (text_first s f) other w h =
+    blank_first c s f other (space_in d TableParts s (no_text d).1 h.0) ∙ count_in_text-captions c d f other w h.1
 count_in_text-captions c d (elem_first e kids f) other w h = go (role_of e.name) refl w.0 (count_in_text-captions c d f other w.1 h.2)
   where
     go : (r : Role) → role_of e.name ≡ r → is_beside r ≡ true → count_in_text c f ≡ count_in_captions c f
-        → count_in_text c kids + count_in_text c f ≡ (if same_element e.name Caption then count_in_text c kids else 0) + count_in_captions c f
+        → count_in_text c (elem_first e kids f) ≡ count_in_captions c (elem_first e kids f)
     go Title is b r = let named : e.name ≡ Caption = of_role e.name Title is refl in rw named (omega (arith, r))
-    go Column is b r = let named : e.name ≡ Col = of_role e.name Column is refl in
-        let inner : count_in_text c kids ≡ 0 = count_in_text-nothing c d kids other (at_kind d (content_held d e.name TableParts) Nothing kids (ap (λ x. content_held d x TableParts) named ∙ (held_columns d TableParts).0) h.1) in
-        rw named (omega (arith, r, inner))
-    go ColumnGroup is b r = let named : e.name ≡ Colgroup = of_role e.name ColumnGroup is refl in
-        let inner : count_in_text c kids ≡ 0 = count_in_text-cols c d kids other (at_kind d (content_held d e.name TableParts) Cols kids (ap (λ x. content_held d x TableParts) named ∙ (held_columns d TableParts).1) h.1) in
-        rw named (omega (arith, r, inner))
+    go Column is b r =
+        let named : e.name ≡ Col = of_role e.name Column is refl in
+        let none = count_in_text-col c d TableParts e.name kids other named h.1 in rw named (omega (arith, r, none))
+    go ColumnGroup is b r =
+        let named : e.name ≡ Colgroup = of_role e.name ColumnGroup is refl in
+        let none = count_in_text-colgroup c d TableParts e.name kids other named h.1 in rw named (omega (arith, r, none))
     go Stranger is b r = absurd (no_stranger d e.name h.0 is)
     go role is b r = absurd (cc)
 
@@ -127,7 +145,7 @@ count_in_captions-columns c no_nodes fits = refl
 count_in_captions-columns c (text_first s f) fits = count_in_captions-columns c f fits
 count_in_captions-columns c (elem_first e kids f) fits = go (role_of e.name) refl fits.0 (count_in_captions-columns c f fits.1)
   where
-    go : (r : Role) → role_of e.name ≡ r → may_hold Columns r ≡ true → count_in_captions c f ≡ 0 → (if same_element e.name Caption then count_in_text c kids else 0) + count_in_captions c f ≡ 0
+    go : (r : Role) → role_of e.name ≡ r → may_hold Columns r ≡ true → count_in_captions c f ≡ 0 → count_in_captions c (elem_first e kids f) ≡ 0
     go Column is k r = rw (of_role e.name Column is refl) (omega (arith, r))
     go ColumnGroup is k r = rw (of_role e.name ColumnGroup is refl) (omega (arith, r))
     go role is k r = absurd (cc)

@@ -14,7 +14,7 @@ use Rattle.pur_tree.specs.Properties.{Holds, letters}
 use Rattle.pur_tree.specs.Walks.{walk, count_in_text}
 use Rattle.pur_tree.proofs.WalkLemmas.{count_in_text-append, count_in_text-joined_nodes}
 use Rattle.pur_nesting.specs.declared.permits.Permits.{Permits}
-use Rattle.pur_nesting.specs.Tables.{repaired_table, lost_in_table}
+use Rattle.pur_nesting.specs.Tables.{lost_in_table}
 use Rattle.pur_nesting.specs.Nesting.{vanishes, repair, nested, lost_in_nesting}
 use Rattle.pur_nesting.proofs.LetterLemmas.{held_table, at_kind, letters_walk}
 use Rattle.pur_nesting.proofs.BlankLemmas.{count_in_text-NoElems}
@@ -22,16 +22,17 @@ use Rattle.pur_nesting.proofs.NeededLemmas.{vanished}
 use Rattle.pur_nesting.proofs.TableCountLemmas.{count_in_text-repaired_table}
 
 count_in_text-repair : (c : ℕ) (d : Doctype) (p : Permits) (k : Content) (e : PlainElem) (kids : Nodes) → is_space c ≡ false
-    → Holds (letters d) (content_held d e.name k) kids → count_in_text c (repair p e kids) + (if same_element e.name Table then lost_in_table c p kids else 0) ≡ count_in_text c kids
+    → Holds (letters d) (content_held d e.name k) kids
+    → count_in_text c (repair p e kids) + (if same_element e.name Table then lost_in_table c p kids else 0) ≡ count_in_text c kids
 count_in_text-repair c d p k e kids other h = go (same_element e.name Table) refl (vanishes e.name kids) refl
   where
     go : (b : Bool) → same_element e.name Table ≡ b → (v : Bool) → vanishes e.name kids ≡ v
-        → count_in_text c (if b then repaired_table p e kids else (if v then no_nodes else elem_first e kids no_nodes)) + (if b then lost_in_table c p kids else 0) ≡ count_in_text c kids
+        → count_in_text c (repair p e kids) + (if same_element e.name Table then lost_in_table c p kids else 0) ≡ count_in_text c kids
     go true is v gone =
-        let named : e.name ≡ Table = (same_element-Decides e.name Table).0 is in
-        count_in_text-repaired_table c d p e kids other (at_kind d (content_held d e.name k) TableParts kids (ap (λ x. content_held d x k) named ∙ held_table d k) h)
-    go false is true gone = let v = vanished d k e.name kids gone h in omega (arith, count_in_text-NoElems c kids other v.2 v.3)
-    go false is false gone = omega arith
+        let held = ap (λ x. content_held d x k) ((same_element-Decides e.name Table).0 is) ∙ held_table d k in
+        rw is (count_in_text-repaired_table c d p e kids other (at_kind d (content_held d e.name k) TableParts kids held h))
+    go false is true gone = let v = vanished d k e.name kids gone h in let none = count_in_text-NoElems c kids other v.2 v.3 in rw (is, gone) (omega (arith, none))
+    go false is false gone = rw (is, gone) (omega arith)
 
 -- what stands after the repair and what is lost is what stood before
 count_in_text-walk : (c : ℕ) (d : Doctype) (p : Permits) (k : Content) (f : Nodes) → is_space c ≡ false → Holds (letters d) k f

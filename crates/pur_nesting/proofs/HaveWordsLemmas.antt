@@ -1,29 +1,26 @@
 -- Words through the repair of a table's parts.
 use Rattle.std.proofs.Common.{◌≡◌, [], ◌∷◌, Bool, true, false, refl, ap, sym, ◌∙◌, subst, arith}
-use Rattle.std.specs.Prelude.{if◌then◌else◌}
+use Rattle.pur_laws.proofs.Truth.{either}
 use Rattle.pur_names.specs.declared.elements.Element.{Element}
-use Rattle.pur_names.specs.declared.elements.Element.TheVariants.{Table, Tbody, Tr}
+use Rattle.pur_names.specs.declared.elements.Element.TheVariants.{Tbody, Tr}
 use Rattle.pur_names.specs.Elements.{same_element}
 use Rattle.pur_names.proofs.ElementLaws.{same_element-Decides}
 use Rattle.pur_modules.specs.declared.kinds.Content.{Content}
-use Rattle.pur_modules.specs.declared.kinds.Content.TheVariants.{Flow, TableParts, Rows}
+use Rattle.pur_modules.specs.declared.kinds.Content.TheVariants.{TableParts, Rows}
 use Rattle.pur_modules.specs.declared.kinds.Doctype.{Doctype}
 use Rattle.pur_modules.specs.Contents.{content_held}
 use Rattle.pur_modules.specs.Expressions.{has_text_letter}
 use Rattle.pur_models.proofs.WordLemmas.{some_letters}
-use Rattle.pur_tree.specs.Nodes.{PlainElem, plain_elem, bare, Nodes, no_nodes, text_first, elem_first, nodes_append}
+use Rattle.pur_tree.specs.Nodes.{PlainElem, Nodes, no_nodes, text_first, elem_first, nodes_append}
 use Rattle.pur_tree.specs.Properties.{Holds, letters}
 use Rattle.pur_tree.specs.Words.{word_of, IsWord, HaveWords}
 use Rattle.pur_nesting.specs.declared.permits.Permits.{Permits}
-use Rattle.pur_nesting.specs.declared.roles.Role.{Role}
-use Rattle.pur_nesting.specs.declared.roles.Role.TheVariants.{Title, Column, ColumnGroup, Header, Footer, Body, Row, Stranger}
 use Rattle.pur_nesting.specs.declared.roles.Part.{Part}
 use Rattle.pur_nesting.specs.declared.roles.Met.{Met}
 use Rattle.pur_nesting.specs.Parts.{role_of, same_part, next, part}
-use Rattle.pur_nesting.specs.Tables.{has_child, from_first_element, is_head_or_foot, as_body, as_bodies, run_of_rows, runs_in_bodies, of_one_kind}
-use Rattle.pur_nesting.proofs.RoleLemmas.{of_role}
-use Rattle.pur_nesting.proofs.HoldsLemmas.{Holds-run_of_rows}
-use Rattle.pur_nesting.proofs.LetterLemmas.{held_table, held_rows, held_row, only_rows, at_kind, letters_stay}
+use Rattle.pur_nesting.specs.Tables.{has_child, from_first_element, as_body, as_bodies, run_of_rows, runs_in_bodies, of_one_kind}
+use Rattle.pur_nesting.proofs.LetterLemmas.{held_rows, held_row, only_rows, at_kind, letters_of_run}
+use Rattle.pur_nesting.proofs.TableLemmas.{each_body}
 use Rattle.pur_nesting.proofs.WordLemmas.{letters_word}
 
 pub HaveWords-at : (d : Doctype) (k l : Content) (f : Nodes) → k ≡ l → HaveWords d k f → HaveWords d l f
@@ -39,115 +36,93 @@ HaveWords-append d k (elem_first e kids f) g h i = (h.0, h.1, HaveWords-append d
 
 pub HaveWords-part : (d : Doctype) (k : Content) (w : Part) (m : Met) (f : Nodes) → HaveWords d k f → HaveWords d k (part w m f)
 HaveWords-part d k w m no_nodes h = tt
-HaveWords-part d k w m (text_first s f) h = go (same_part w m.part) (HaveWords-part d k w m f h)
-  where
-    go : (b : Bool) → HaveWords d k (part w m f) → HaveWords d k (if b then text_first s (part w m f) else part w m f)
-    go true r = r
-    go false r = r
-HaveWords-part d k w m (elem_first e kids f) h = go (same_part w (next m (role_of e.name)).part) (HaveWords-part d k w (next m (role_of e.name)) f h.2)
-  where
-    go : (b : Bool) → HaveWords d k (part w (next m (role_of e.name)) f)
-        → HaveWords d k (if b then elem_first e kids (part w (next m (role_of e.name)) f) else part w (next m (role_of e.name)) f)
-    go true r = (h.0, h.1, r)
-    go false r = r
+HaveWords-part d k w m (text_first s f) h =
+    let rest = HaveWords-part d k w m f h in either (HaveWords d k) (same_part w m.part) (text_first s (part w m f)) (part w m f) rest rest
+HaveWords-part d k w m (elem_first e kids f) h =
+    let n : Met = next m (role_of e.name) in
+    let rest = HaveWords-part d k w n f h.2 in
+    either (HaveWords d k) (same_part w n.part) (elem_first e kids (part w n f)) (part w n f) (h.0, h.1, rest) rest
 
 HaveWords-from_first_element : (d : Doctype) (k : Content) (f : Nodes) → HaveWords d k f → HaveWords d k (from_first_element f)
 HaveWords-from_first_element d k no_nodes h = tt
 HaveWords-from_first_element d k (text_first s f) h = HaveWords-from_first_element d k f h
 HaveWords-from_first_element d k (elem_first e kids f) h = h
 
--- rows in the table, and rows in a body
+-- a row in the table, and in a body
+row_same : (d : Doctype) (e : Element) → e ≡ Tr → content_held d e TableParts ≡ content_held d e Rows
+row_same d e row =
+    ap (λ x. content_held d x TableParts) row ∙ held_row d TableParts ∙ sym (held_row d Rows) ∙ ap (λ x. content_held d x Rows) (sym row)
+
 HaveWords-rows : (d : Doctype) (f : Nodes) → Holds (letters d) Rows f → HaveWords d Rows f → HaveWords d TableParts f
 HaveWords-rows d no_nodes l h = tt
 HaveWords-rows d (text_first s f) l h = HaveWords-rows d f l.1 h
 HaveWords-rows d (elem_first e kids f) l h =
-    let row : e.name ≡ Tr = only_rows d e.name l.0 in
-    let same : content_held d e.name Rows ≡ content_held d e.name TableParts = ap (λ x. content_held d x Rows) row ∙ held_row d Rows ∙ sym (held_row d TableParts) ∙ ap (λ x. content_held d x TableParts) (sym row) in (
+    let same : content_held d e.name Rows ≡ content_held d e.name TableParts = sym (row_same d e.name (only_rows d e.name l.0)) in (
       IsWord-at d (content_held d e.name Rows) (content_held d e.name TableParts) kids same h.0,
       HaveWords-at d (content_held d e.name Rows) (content_held d e.name TableParts) kids same h.1,
       HaveWords-rows d f l.2 h.2,
     )
-
-row_same : (d : Doctype) (e : Element) → same_element e Tr ≡ true → content_held d e TableParts ≡ content_held d e Rows
-row_same d e is =
-    let row : e ≡ Tr = (same_element-Decides e Tr).0 is in
-    ap (λ x. content_held d x TableParts) row ∙ held_row d TableParts ∙ sym (held_row d Rows) ∙ ap (λ x. content_held d x Rows) (sym row)
 
 HaveWords-run_of_rows : (d : Doctype) (f : Nodes) → HaveWords d TableParts f → HaveWords d Rows (run_of_rows f)
 HaveWords-run_of_rows d no_nodes h = tt
 HaveWords-run_of_rows d (text_first s f) h = HaveWords-run_of_rows d f h
 HaveWords-run_of_rows d (elem_first e kids f) h = go (same_element e.name Tr) refl (HaveWords-run_of_rows d f h.2)
   where
-    go : (b : Bool) → same_element e.name Tr ≡ b → HaveWords d Rows (run_of_rows f) → HaveWords d Rows (if b then elem_first e kids (run_of_rows f) else no_nodes)
-    go true is r = (IsWord-at d _ _ kids (row_same d e.name is) h.0, HaveWords-at d _ _ kids (row_same d e.name is) h.1, r)
-    go false is r = tt
+    go : (b : Bool) → same_element e.name Tr ≡ b → HaveWords d Rows (run_of_rows f) → HaveWords d Rows (run_of_rows (elem_first e kids f))
+    go true is r =
+        let same = row_same d e.name ((same_element-Decides e.name Tr).0 is) in
+        rw is (IsWord-at d _ _ kids same h.0, HaveWords-at d _ _ kids same h.1, r)
+    go false is r = rw is tt
 
 HaveWords-as_body : (d : Doctype) (tbody : Bool) (e : PlainElem) (kids : Nodes) → Holds (letters d) (content_held d e.name TableParts) kids
     → IsWord d (content_held d e.name TableParts) kids → HaveWords d (content_held d e.name TableParts) kids → HaveWords d TableParts (as_body tbody e kids)
-HaveWords-as_body d tbody e kids l w h = go (role_of e.name) refl tbody
-  where
-    rows : (b : Bool) → content_held d e.name TableParts ≡ Rows → HaveWords d TableParts (if b then elem_first (plain_elem Tbody e.attrs) kids no_nodes else from_first_element kids)
-    rows true same = (
-      IsWord-at d (content_held d e.name TableParts) (content_held d Tbody TableParts) kids (same ∙ sym (held_rows d TableParts).2) w,
-      HaveWords-at d (content_held d e.name TableParts) (content_held d Tbody TableParts) kids (same ∙ sym (held_rows d TableParts).2) h,
-      tt,
-    )
-    rows false same = HaveWords-from_first_element d TableParts kids
-        (HaveWords-rows d kids (at_kind d (content_held d e.name TableParts) Rows kids same l) (HaveWords-at d (content_held d e.name TableParts) Rows kids same h))
+HaveWords-as_body d tbody e kids l w h =
+    each_body (HaveWords d TableParts) d tbody e kids (
+    λ rows. let same : content_held d e.name TableParts ≡ content_held d Tbody TableParts = rows ∙ sym (held_rows d TableParts).2 in
+    (IsWord-at d _ _ kids same w, HaveWords-at d _ _ kids same h, tt)
+    ) (
+    λ rows. HaveWords-from_first_element d TableParts kids
+    (HaveWords-rows d kids (at_kind d (content_held d e.name TableParts) Rows kids rows l) (HaveWords-at d (content_held d e.name TableParts) Rows kids rows h))
+    ) (λ other. (w, h, tt))
 
-    go : (r : Role) → role_of e.name ≡ r → (b : Bool) → HaveWords d TableParts (if is_head_or_foot r then (if b then elem_first (plain_elem Tbody e.attrs) kids no_nodes else from_first_element kids) else elem_first e kids no_nodes)
-    go Header is b = rows b (ap (λ x. content_held d x TableParts) (of_role e.name Header is refl) ∙ (held_rows d TableParts).0)
-    go Footer is b = rows b (ap (λ x. content_held d x TableParts) (of_role e.name Footer is refl) ∙ (held_rows d TableParts).1)
-    go Title is b = (w, h, tt)
-    go Column is b = (w, h, tt)
-    go ColumnGroup is b = (w, h, tt)
-    go Body is b = (w, h, tt)
-    go Row is b = (w, h, tt)
-    go Stranger is b = (w, h, tt)
-
-pub HaveWords-as_bodies : (d : Doctype) (tbody : Bool) (f : Nodes) → Holds (letters d) TableParts f → HaveWords d TableParts f → HaveWords d TableParts (as_bodies tbody f)
+pub HaveWords-as_bodies : (d : Doctype) (tbody : Bool) (f : Nodes) → Holds (letters d) TableParts f → HaveWords d TableParts f
+    → HaveWords d TableParts (as_bodies tbody f)
 HaveWords-as_bodies d tbody no_nodes l h = tt
 HaveWords-as_bodies d tbody (text_first s f) l h = HaveWords-as_bodies d tbody f l.1 h
 HaveWords-as_bodies d tbody (elem_first e kids f) l h =
-    HaveWords-append d TableParts (as_body tbody e kids) (as_bodies tbody f) (HaveWords-as_body d tbody e kids l.1 h.0 h.1) (HaveWords-as_bodies d tbody f l.2 h.2)
+    HaveWords-append d TableParts (as_body tbody e kids) (as_bodies tbody f)
+    (HaveWords-as_body d tbody e kids l.1 h.0 h.1) (HaveWords-as_bodies d tbody f l.2 h.2)
 
 -- a row and the run behind it are a word of a body
-run_word : (d : Doctype) (p : Permits) (e : PlainElem) (kids f : Nodes) → same_element e.name Tr ≡ true → Holds (letters d) Rows (elem_first e kids (run_of_rows f))
-    → IsWord d Rows (elem_first e kids (run_of_rows f))
-run_word d p e kids f is l =
-    some_letters d Rows (word_of (has_text_letter d Rows) (elem_first e kids (run_of_rows f))) refl (omega arith) (letters_word d Rows (elem_first e kids (run_of_rows f)) l)
+run_word : (d : Doctype) (e : PlainElem) (kids f : Nodes) → Holds (letters d) Rows (elem_first e kids f) → IsWord d Rows (elem_first e kids f)
+run_word d e kids f l = some_letters d Rows (word_of (has_text_letter d Rows) (elem_first e kids f)) refl (omega arith) (letters_word d Rows (elem_first e kids f) l)
 
-HaveWords-runs : (d : Doctype) (p : Permits) (in_run : Bool) (f : Nodes) → Holds (letters d) TableParts f → HaveWords d TableParts f → HaveWords d TableParts (runs_in_bodies in_run f)
+HaveWords-runs : (d : Doctype) (p : Permits) (in_run : Bool) (f : Nodes) → Holds (letters d) TableParts f → HaveWords d TableParts f
+    → HaveWords d TableParts (runs_in_bodies in_run f)
 HaveWords-runs d p in_run no_nodes l h = tt
 HaveWords-runs d p true (text_first s f) l h = HaveWords-runs d p true f l.1 h
 HaveWords-runs d p false (text_first s f) l h = HaveWords-runs d p false f l.1 h
 HaveWords-runs d p in_run (elem_first e kids f) l h =
     go (same_element e.name Tr) refl in_run (HaveWords-runs d p true f l.2 h.2) (HaveWords-runs d p false f l.2 h.2)
   where
-    -- the run with its row, as the children of a body below a table below a flow
-    run_letters : same_element e.name Tr ≡ true → Holds (letters d) Rows (elem_first e kids (run_of_rows f))
-    run_letters is =
-        let t : content_held d Table Flow ≡ TableParts = held_table d Flow in
-        let all : Holds (letters d) (content_held d Table Flow) (elem_first e kids f) = at_kind d TableParts (content_held d Table Flow) (elem_first e kids f) (sym t) l in
-        let run : Holds (letters d) (content_held d Tbody (content_held d Table Flow)) (run_of_rows (elem_first e kids f)) = Holds-run_of_rows (letters d) p (letters_stay d p) Flow (elem_first e kids f) all in
-        at_kind d (content_held d Tbody (content_held d Table Flow)) Rows (elem_first e kids (run_of_rows f)) (held_rows d (content_held d Table Flow)).2 (rw is at run)
+    rows : Rows ≡ content_held d Tbody TableParts
+    rows = sym (held_rows d TableParts).2
 
-    run_words : same_element e.name Tr ≡ true → HaveWords d Rows (elem_first e kids (run_of_rows f))
-    run_words is = let run : HaveWords d Rows (run_of_rows (elem_first e kids f)) = HaveWords-run_of_rows d (elem_first e kids f) h in rw is at run
+    run : same_element e.name Tr ≡ true
+        → IsWord d (content_held d Tbody TableParts) (elem_first e kids (run_of_rows f)) × HaveWords d (content_held d Tbody TableParts) (elem_first e kids (run_of_rows f))
+    run is =
+        let run_letters : Holds (letters d) Rows (run_of_rows (elem_first e kids f)) = letters_of_run d p (elem_first e kids f) l in
+        let run_words : HaveWords d Rows (run_of_rows (elem_first e kids f)) = HaveWords-run_of_rows d (elem_first e kids f) h in (
+          IsWord-at d Rows (content_held d Tbody TableParts) (elem_first e kids (run_of_rows f)) rows (run_word d e kids (run_of_rows f) (rw is at run_letters)),
+          HaveWords-at d Rows (content_held d Tbody TableParts) (elem_first e kids (run_of_rows f)) rows (rw is at run_words),
+        )
 
     go : (b : Bool) → same_element e.name Tr ≡ b → (i : Bool) → HaveWords d TableParts (runs_in_bodies true f) → HaveWords d TableParts (runs_in_bodies false f)
-        → HaveWords d TableParts (if b then (if i then runs_in_bodies true f else elem_first (bare Tbody) (elem_first e kids (run_of_rows f)) (runs_in_bodies true f)) else elem_first e kids (runs_in_bodies false f))
-    go true is true r s = r
-    go true is false r s = (
-      IsWord-at d Rows (content_held d Tbody TableParts) (elem_first e kids (run_of_rows f)) (sym (held_rows d TableParts).2) (run_word d p e kids f is (run_letters is)),
-      HaveWords-at d Rows (content_held d Tbody TableParts) (elem_first e kids (run_of_rows f)) (sym (held_rows d TableParts).2) (run_words is),
-      r,
-    )
-    go false is i r s = (h.0, h.1, s)
+        → HaveWords d TableParts (runs_in_bodies i (elem_first e kids f))
+    go true is true r s = rw is r
+    go true is false r s = let made = run is in rw is (made.0, made.1, r)
+    go false is i r s = rw is (h.0, h.1, s)
 
-pub HaveWords-of_one_kind : (d : Doctype) (p : Permits) (f : Nodes) → Holds (letters d) TableParts f → HaveWords d TableParts f → HaveWords d TableParts (of_one_kind f)
-HaveWords-of_one_kind d p f l h = go (has_child (Tbody ∷ []) f)
-  where
-    go : (b : Bool) → HaveWords d TableParts (if b then runs_in_bodies false f else f)
-    go true = HaveWords-runs d p false f l h
-    go false = h
+pub HaveWords-of_one_kind : (d : Doctype) (p : Permits) (f : Nodes) → Holds (letters d) TableParts f → HaveWords d TableParts f
+    → HaveWords d TableParts (of_one_kind f)
+HaveWords-of_one_kind d p f l h = either (HaveWords d TableParts) (has_child (Tbody ∷ []) f) (runs_in_bodies false f) f (HaveWords-runs d p false f l h) h

@@ -1,6 +1,5 @@
 -- After repair the children of each element are a word of what it holds.
 use Rattle.std.proofs.Common.{◌≡◌, ℕ, List, ◌∷◌, Bool, true, false, refl, ap, ◌∙◌}
-use Rattle.std.specs.Prelude.{if◌then◌else◌}
 use Rattle.std.proofs.lemmas.Bool.{and_from}
 use Rattle.std.proofs.lemmas.List.Folds.{list_all-append}
 use Rattle.pur_text.specs.Characters.{is_space, is_blank}
@@ -22,7 +21,6 @@ use Rattle.pur_tree.specs.Walks.{walk, text_joined, joined_nodes}
 use Rattle.pur_tree.specs.Words.{word_of, IsWord, HaveWords}
 use Rattle.pur_tree.proofs.HoldsLemmas.{Holds-joined_nodes}
 use Rattle.pur_nesting.specs.declared.permits.Permits.{Permits}
-use Rattle.pur_nesting.specs.Tables.{repaired_table}
 use Rattle.pur_nesting.specs.Nesting.{vanishes, repair, nested}
 use Rattle.pur_nesting.proofs.LetterLemmas.{held_table, at_kind, letters_stay, letters_walk}
 use Rattle.pur_nesting.proofs.BlankLemmas.{Blank, Blank-letters}
@@ -30,24 +28,28 @@ use Rattle.pur_nesting.proofs.WordLemmas.{letters_word, word_of_element}
 use Rattle.pur_nesting.proofs.HaveWordsLemmas.{HaveWords-at, HaveWords-append}
 use Rattle.pur_nesting.proofs.TableHasWordsLemmas.{HaveWords-repaired_table}
 
-pub HaveWords-repair : (d : Doctype) (p : Permits) (k : Content) (e : PlainElem) (kids : Nodes) → Holds (letters d) (content_held d e.name k) kids
+HaveWords-repair : (d : Doctype) (p : Permits) (k : Content) (e : PlainElem) (kids : Nodes) → Holds (letters d) (content_held d e.name k) kids
     → HaveWords d (content_held d e.name k) kids → HaveWords d k (repair p e kids)
 HaveWords-repair d p k e kids l h = go (same_element e.name Table) refl (vanishes e.name kids) refl
   where
-    go : (b : Bool) → same_element e.name Table ≡ b → (v : Bool) → vanishes e.name kids ≡ v → HaveWords d k (if b then repaired_table p e kids else (if v then no_nodes else elem_first e kids no_nodes))
+    go : (b : Bool) → same_element e.name Table ≡ b → (v : Bool) → vanishes e.name kids ≡ v → HaveWords d k (repair p e kids)
     go true is v gone =
         let named : e.name ≡ Table = (same_element-Decides e.name Table).0 is in
         let same : content_held d e.name k ≡ TableParts = ap (λ x. content_held d x k) named ∙ held_table d k in
-        HaveWords-repaired_table d p k e kids named (at_kind d (content_held d e.name k) TableParts kids same l) (HaveWords-at d (content_held d e.name k) TableParts kids same h)
-    go false is true gone = tt
-    go false is false gone = (word_of_element d k e.name kids is gone l, h, tt)
+        let kept = at_kind d (content_held d e.name k) TableParts kids same l in
+        rw is (HaveWords-repaired_table d p k e kids named kept (HaveWords-at d (content_held d e.name k) TableParts kids same h))
+    go false is true gone = rw (is, gone) tt
+    go false is false gone = rw (is, gone) (word_of_element d k e.name kids is gone l, h, tt)
 
-pub HaveWords-walk : (d : Doctype) (p : Permits) (k : Content) (f : Nodes) → Holds (letters d) k f → HaveWords d k (walk (repair p) f)
+HaveWords-walk : (d : Doctype) (p : Permits) (k : Content) (f : Nodes) → Holds (letters d) k f → HaveWords d k (walk (repair p) f)
 HaveWords-walk d p k no_nodes l = tt
 HaveWords-walk d p k (text_first s f) l = HaveWords-walk d p k f l.1
 HaveWords-walk d p k (elem_first e kids f) l =
     HaveWords-append d k (repair p e (walk (repair p) kids)) (walk (repair p) f)
-    (HaveWords-repair d p k e (walk (repair p) kids) (letters_walk d p (content_held d e.name k) kids l.1) (HaveWords-walk d p (content_held d e.name k) kids l.1))
+    (
+    HaveWords-repair d p k e (walk (repair p) kids) (letters_walk d p (content_held d e.name k) kids l.1)
+    (HaveWords-walk d p (content_held d e.name k) kids l.1)
+    )
     (HaveWords-walk d p k f l.2)
 
 -- joining texts leaves words words
@@ -85,7 +87,9 @@ IsWord-joined_nodes : (d : Doctype) (p : Permits) (k : Content) (f : Nodes) → 
 IsWord-joined_nodes d p k f l w = go (has_text_letter d k) refl
   where
     go : (t : Bool) → has_text_letter d k ≡ t → IsWord d k (joined_nodes f)
-    go true is = any_letters d k (word_of (has_text_letter d k) (joined_nodes f)) (text_takes_any d k is) (letters_word d k (joined_nodes f) (Holds-joined_nodes (letters d) (letters_stay d p).joined k f l))
+    go true is =
+        let kept = Holds-joined_nodes (letters d) (letters_stay d p).joined k f l in
+        any_letters d k (word_of (has_text_letter d k) (joined_nodes f)) (text_takes_any d k is) (letters_word d k (joined_nodes f) kept)
     go false is = let v : Language d k (word_of false f) = rw is at w in rw (is, word_of-joined_nodes f (Blank-letters d k f is l)) v
 
 HaveWords-text_joined : (d : Doctype) (k : Content) (s : List ℕ) (f : Nodes) → HaveWords d k f → HaveWords d k (text_joined s f)
@@ -97,7 +101,8 @@ HaveWords-joined_nodes : (d : Doctype) (p : Permits) (k : Content) (f : Nodes) �
 HaveWords-joined_nodes d p k no_nodes l h = tt
 HaveWords-joined_nodes d p k (text_first s f) l h = HaveWords-text_joined d k s (joined_nodes f) (HaveWords-joined_nodes d p k f l.1 h)
 HaveWords-joined_nodes d p k (elem_first e kids f) l h =
-    (IsWord-joined_nodes d p (content_held d e.name k) kids l.1 h.0, HaveWords-joined_nodes d p (content_held d e.name k) kids l.1 h.1, HaveWords-joined_nodes d p k f l.2 h.2)
+    let held = content_held d e.name k in
+    (IsWord-joined_nodes d p held kids l.1 h.0, HaveWords-joined_nodes d p held kids l.1 h.1, HaveWords-joined_nodes d p k f l.2 h.2)
 
 -- after the repair the children of each element are a word of what it holds
 pub HaveWords-nested : (d : Doctype) (p : Permits) (k : Content) (f : Nodes) → Holds (letters d) k f → HaveWords d k (nested p f)

@@ -50,7 +50,8 @@ free_stays p = record {
   beside_rows = λ w s h. tt;
 }
 
-pub permitted_stays : (permits : Element → Bool) (p : Permits) → (p.paragraph ≡ true → permits P ≡ true) → (p.tbody ≡ true → permits Tbody ≡ true) → StaysInRepair (permitted permits) p
+pub permitted_stays : (permits : Element → Bool) (p : Permits) → (p.paragraph ≡ true → permits P ≡ true)
+    → (p.tbody ≡ true → permits Tbody ≡ true) → StaysInRepair (permitted permits) p
 permitted_stays permits p paragraph body = record {
   joined = λ w s t h k. tt;
   paragraph = λ yes w attrs h. paragraph yes;

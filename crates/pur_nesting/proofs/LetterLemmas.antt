@@ -20,9 +20,10 @@ use Rattle.pur_tree.specs.Properties.{Holds, letters}
 use Rattle.pur_tree.specs.Walks.{walk}
 use Rattle.pur_tree.proofs.HoldsLemmas.{Holds-walk}
 use Rattle.pur_nesting.specs.declared.permits.Permits.{Permits}
+use Rattle.pur_nesting.specs.Tables.{as_bodies, run_of_rows, of_one_kind}
 use Rattle.pur_nesting.specs.Nesting.{repair, nested}
 use Rattle.pur_nesting.specs.Private.Keeping.{StaysInRepair}
-use Rattle.pur_nesting.proofs.HoldsLemmas.{Holds-repair, Holds-nested}
+use Rattle.pur_nesting.proofs.HoldsLemmas.{Holds-as_bodies, Holds-run_of_rows, Holds-of_one_kind, Holds-repair, Holds-nested}
 
 pub held_table : (d : Doctype) (k : Content) → content_held d Table k ≡ TableParts
 unfolding content_held
@@ -44,7 +45,7 @@ body_letter : (d : Doctype) → is_letter d TableParts (Elem Tbody) ≡ true
 unfolding child_letters
 body_letter d = refl
 
-pub row_letter : (d : Doctype) → (is_letter d Rows (Elem Tr) ≡ true) × (is_letter d TableParts (Elem Tr) ≡ true)
+row_letter : (d : Doctype) → (is_letter d Rows (Elem Tr) ≡ true) × (is_letter d TableParts (Elem Tr) ≡ true)
 unfolding child_letters
 row_letter d = (refl, refl)
 
@@ -84,7 +85,7 @@ space_anywhere : (d : Doctype) (k : Content) (s : List ℕ) → is_blank s ≡ t
 space_anywhere d k s h = rw h refl
 
 -- rows may stand in the table itself
-pub rows_in_table : (d : Doctype) (f : Nodes) → Holds (letters d) Rows f → Holds (letters d) TableParts f
+rows_in_table : (d : Doctype) (f : Nodes) → Holds (letters d) Rows f → Holds (letters d) TableParts f
 rows_in_table d no_nodes h = tt
 rows_in_table d (text_first s f) h = (space_anywhere d TableParts s (space_in d Rows s (no_text d).0 h.0), rows_in_table d f h.1)
 rows_in_table d (elem_first e kids f) h =
@@ -101,7 +102,8 @@ text_joins d k s t h i = go (is_letter d k Text) h i
   where
     go : (b : Bool) → (is_blank s || b) ≡ true → (is_blank t || b) ≡ true → (is_blank (s ++ t) || b) ≡ true
     go true h i = or_true (is_blank (s ++ t))
-    go false h i = or_false (is_blank (s ++ t)) ∙ list_all-append is_space s t ∙ and_from _ _ (sym (or_false (is_blank s)) ∙ h) (sym (or_false (is_blank t)) ∙ i)
+    go false h i =
+        or_false (is_blank (s ++ t)) ∙ list_all-append is_space s t ∙ and_from _ _ (sym (or_false (is_blank s)) ∙ h) (sym (or_false (is_blank t)) ∙ i)
 
 pub letters_stay : (d : Doctype) (p : Permits) → StaysInRepair (letters d) p
 letters_stay d p = record {
@@ -113,8 +115,10 @@ letters_stay d p = record {
   body = λ k attrs h. h;
   in_head = λ k kids h. at_kind d _ _ kids ((held_rows d (content_held d Table k)).0 ∙ sym (held_rows d (content_held d Table k)).2) h;
   in_foot = λ k kids h. at_kind d _ _ kids ((held_rows d (content_held d Table k)).1 ∙ sym (held_rows d (content_held d Table k)).2) h;
-  out_of_head = λ k kids h. at_kind d TableParts (content_held d Table k) kids (sym (held_table d k)) (rows_in_table d kids (at_kind d _ Rows kids (held_rows d (content_held d Table k)).0 h));
-  out_of_foot = λ k kids h. at_kind d TableParts (content_held d Table k) kids (sym (held_table d k)) (rows_in_table d kids (at_kind d _ Rows kids (held_rows d (content_held d Table k)).1 h));
+  out_of_head = λ k kids h. let rows = at_kind d _ Rows kids (held_rows d (content_held d Table k)).0 h in
+      at_kind d TableParts (content_held d Table k) kids (sym (held_table d k)) (rows_in_table d kids rows);
+  out_of_foot = λ k kids h. let rows = at_kind d _ Rows kids (held_rows d (content_held d Table k)).1 h in
+      at_kind d TableParts (content_held d Table k) kids (sym (held_table d k)) (rows_in_table d kids rows);
   row = λ k attrs h. letter_at d Rows (content_held d Tbody (content_held d Table k)) Tr (sym (held_rows d (content_held d Table k)).2) (row_letter d).0;
   in_row = λ k kids h. at_kind d _ _ kids (held_row d (content_held d Table k) ∙ sym (held_row d (content_held d Tbody (content_held d Table k)))) h;
   beside_rows = λ k s h.
@@ -128,3 +132,22 @@ letters_walk d p k f h = Holds-walk (letters d) (repair p) (Holds-repair (letter
 
 pub letters_nested : (d : Doctype) (p : Permits) (k : Content) (f : Nodes) → Holds (letters d) k f → Holds (letters d) k (nested p f)
 letters_nested d p k f h = Holds-nested (letters d) p (letters_stay d p) k f h
+
+-- letters of a table's bodies, in a table below some content
+letters_below : (d : Doctype) (f : Nodes) → Holds (letters d) TableParts f → Holds (letters d) (content_held d Table Flow) f
+letters_below d f l = at_kind d TableParts (content_held d Table Flow) f (sym (held_table d Flow)) l
+
+pub letters_of_bodies : (d : Doctype) (p : Permits) (f : Nodes) → Holds (letters d) TableParts f → Holds (letters d) TableParts (as_bodies p.tbody f)
+letters_of_bodies d p f l =
+    at_kind d (content_held d Table Flow) TableParts (as_bodies p.tbody f) (held_table d Flow)
+    (Holds-as_bodies (letters d) p (letters_stay d p) Flow f (letters_below d f l))
+
+pub letters_of_one_kind : (d : Doctype) (p : Permits) (f : Nodes) → Holds (letters d) TableParts f → Holds (letters d) TableParts (of_one_kind f)
+letters_of_one_kind d p f l =
+    at_kind d (content_held d Table Flow) TableParts (of_one_kind f) (held_table d Flow)
+    (Holds-of_one_kind (letters d) p (letters_stay d p) Flow f (letters_below d f l))
+
+pub letters_of_run : (d : Doctype) (p : Permits) (f : Nodes) → Holds (letters d) TableParts f → Holds (letters d) Rows (run_of_rows f)
+letters_of_run d p f l =
+    at_kind d (content_held d Tbody (content_held d Table Flow)) Rows (run_of_rows f) (held_rows d (content_held d Table Flow)).2
+    (Holds-run_of_rows (letters d) p (letters_stay d p) Flow f (letters_below d f l))

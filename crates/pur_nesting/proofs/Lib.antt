@@ -22,6 +22,7 @@ pub mod RowLemmas
 pub mod SettledLemmas
 pub mod TableCountLemmas
 pub mod TableHasWordsLemmas
+pub mod TableLemmas
 pub mod TableWordLemmas
 pub mod ValidLemmas
 pub mod WordLemmas

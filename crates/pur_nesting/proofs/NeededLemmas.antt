@@ -23,34 +23,39 @@ use Rattle.pur_nesting.proofs.BlankLemmas.{Blank, Blank-letters}
 abbrev pub needs : Element → Bool
 needs e = nat_lt 0 (length (needed_by e))
 
-pub implied : (a b : Bool) → (not a || b) ≡ true → a ≡ true → b ≡ true
+implied : (a b : Bool) → (not a || b) ≡ true → a ≡ true → b ≡ true
 implied true b h k = h
 implied false b h k = absurd (cc)
+
+-- a letter of its content is a child of which it needs one
+abbrev is_needed : Doctype → Content → Element → Element → Bool
+is_needed d k e x = not (is_letter d (content_held d e k) (Elem x)) || is_among (needed_by e) x
 
 -- its content has no text, no letters but the children of which it needs one, and isn't the content of an empty element
 abbrev needs_what_it_holds : Doctype → Content → Element → Bool
 needs_what_it_holds d k e =
     not (needs e)
     || ((not (has_text_letter d (content_held d e k)) && not (may_be_empty (content_held d e k)))
-    && list_all (λ x. not (is_letter d (content_held d e k) (Elem x)) || is_among (needed_by e) x) all_elements)
+    && list_all (is_needed d k e) all_elements)
 
 all_need_what_they_hold : (d : Doctype) (k : Content) → list_all (needs_what_it_holds d k) all_elements ≡ true
 unfolding content_held child_letters has_text_letter
 all_need_what_they_hold d k = refl
 
-pub needed_letters : (d : Doctype) (k : Content) (e : Element) → needs e ≡ true
+needed_letters : (d : Doctype) (k : Content) (e : Element) → needs e ≡ true
     → (has_text_letter d (content_held d e k) ≡ false) × (may_be_empty (content_held d e k) ≡ false)
     × ((x : Element) → is_letter d (content_held d e k) (Elem x) ≡ true → is_among (needed_by e) x ≡ true)
 needed_letters d k e n =
     let all = implied (needs e) _ (each_element (needs_what_it_holds d k) (all_need_what_they_hold d k) e) n in
-    let facts = and_parts _ (list_all (λ x. not (is_letter d (content_held d e k) (Elem x)) || is_among (needed_by e) x) all_elements) all in
+    let only : Bool = list_all (is_needed d k e) all_elements in
+    let facts = and_parts _ only all in
     let both = and_parts (not (has_text_letter d (content_held d e k))) (not (may_be_empty (content_held d e k))) facts.0 in (
       not-true _ both.0,
       not-true _ both.1,
-      λ x. implied (is_letter d (content_held d e k) (Elem x)) (is_among (needed_by e) x) (each_element (λ x. not (is_letter d (content_held d e k) (Elem x)) || is_among (needed_by e) x) facts.1 x),
+      λ x. implied (is_letter d (content_held d e k) (Elem x)) (is_among (needed_by e) x) (each_element (is_needed d k e) facts.1 x),
     )
 
-pub NoElems-needed : (es : List Element) (d : Doctype) (k : Content) (f : Nodes) → ((x : Element) → is_letter d k (Elem x) ≡ true → is_among es x ≡ true)
+NoElems-needed : (es : List Element) (d : Doctype) (k : Content) (f : Nodes) → ((x : Element) → is_letter d k (Elem x) ≡ true → is_among es x ≡ true)
     → has_child es f ≡ false → Holds (letters d) k f → NoElems f
 NoElems-needed es d k no_nodes only none h = tt
 NoElems-needed es d k (text_first s f) only none h = NoElems-needed es d k f only none h.1

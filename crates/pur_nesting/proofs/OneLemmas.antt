@@ -1,6 +1,5 @@
 -- At most one caption, one head and one foot belong to their parts.
 use Rattle.std.proofs.Common.{◌≡◌, Bool, true, false, refl, sym, subst}
-use Rattle.std.specs.Prelude.{if◌then◌else◌}
 use Rattle.pur_laws.proofs.Truth.{either}
 use Rattle.pur_tree.specs.Nodes.{Nodes, no_nodes, text_first, elem_first}
 use Rattle.pur_nesting.specs.declared.roles.Role.{Role}
@@ -9,7 +8,8 @@ use Rattle.pur_nesting.specs.declared.roles.Part.{Part}
 use Rattle.pur_nesting.specs.declared.roles.Part.TheVariants.{Captions, Heads, Feet}
 use Rattle.pur_nesting.specs.declared.roles.Met.{Met}
 use Rattle.pur_nesting.specs.Parts.{role_of, same_part, next, part}
-use Rattle.pur_nesting.proofs.RoleLemmas.{same_part-true, may_hold, part_of_role}
+use Rattle.pur_nesting.proofs.RoleLemmas.{may_hold, part_of_role}
+use Rattle.pur_nesting.proofs.TableLemmas.{in_part}
 
 -- there is no element
 abbrev pub NoElems : Nodes → Type 0
@@ -30,7 +30,7 @@ is_single Feet = true
 is_single w = false
 
 -- what belongs to such a part has been met
-abbrev pub met_at : Part → Met → Bool
+abbrev met_at : Part → Met → Bool
 met_at Captions m = m.caption
 met_at Heads m = m.head
 met_at Feet m = m.foot
@@ -62,20 +62,19 @@ met_there w m r h k = absurd (cc)
 
 NoElems-part : (w : Part) (m : Met) (f : Nodes) → met_at w m ≡ true → NoElems (part w m f)
 NoElems-part w m no_nodes h = tt
-NoElems-part w m (text_first s f) h = let r = NoElems-part w m f h in either NoElems (same_part w m.part) (text_first s (part w m f)) (part w m f) r r
-NoElems-part w m (elem_first e kids f) h = go (same_part w (next m (role_of e.name)).part) refl (NoElems-part w (next m (role_of e.name)) f (stays_met w m (role_of e.name) h))
-  where
-    go : (b : Bool) → same_part w (next m (role_of e.name)).part ≡ b → NoElems (part w (next m (role_of e.name)) f)
-        → NoElems (if b then elem_first e kids (part w (next m (role_of e.name)) f) else part w (next m (role_of e.name)) f)
-    go true is r = let there = same_part-true w (next m (role_of e.name)).part is in none_twice w m (role_of e.name) h there (held w m (role_of e.name) there)
-    go false is r = r
+NoElems-part w m (text_first s f) h =
+    let r = NoElems-part w m f h in either NoElems (same_part w m.part) (text_first s (part w m f)) (part w m f) r r
+NoElems-part w m (elem_first e kids f) h =
+    let n : Met = next m (role_of e.name) in
+    let stays = stays_met w m (role_of e.name) h in
+    in_part NoElems w n.part (elem_first e kids (part w n f)) (part w n f)
+    (λ there. none_twice w m (role_of e.name) h there (held w m (role_of e.name) there)) (λ other. NoElems-part w n f stays)
 
 pub AtMostOne-part : (w : Part) (m : Met) (f : Nodes) → is_single w ≡ true → AtMostOne (part w m f)
 AtMostOne-part w m no_nodes h = tt
-AtMostOne-part w m (text_first s f) h = let r = AtMostOne-part w m f h in either AtMostOne (same_part w m.part) (text_first s (part w m f)) (part w m f) r r
-AtMostOne-part w m (elem_first e kids f) h = go (same_part w (next m (role_of e.name)).part) refl (AtMostOne-part w (next m (role_of e.name)) f h)
-  where
-    go : (b : Bool) → same_part w (next m (role_of e.name)).part ≡ b → AtMostOne (part w (next m (role_of e.name)) f)
-        → AtMostOne (if b then elem_first e kids (part w (next m (role_of e.name)) f) else part w (next m (role_of e.name)) f)
-    go true is r = NoElems-part w (next m (role_of e.name)) f (met_there w m (role_of e.name) h (held w m (role_of e.name) (same_part-true w (next m (role_of e.name)).part is)))
-    go false is r = r
+AtMostOne-part w m (text_first s f) h =
+    let r = AtMostOne-part w m f h in either AtMostOne (same_part w m.part) (text_first s (part w m f)) (part w m f) r r
+AtMostOne-part w m (elem_first e kids f) h =
+    let n : Met = next m (role_of e.name) in
+    in_part AtMostOne w n.part (elem_first e kids (part w n f)) (part w n f)
+    (λ there. NoElems-part w n f (met_there w m (role_of e.name) h (held w m (role_of e.name) there))) (λ other. AtMostOne-part w n f h)

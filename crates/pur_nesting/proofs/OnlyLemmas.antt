@@ -1,26 +1,25 @@
 -- Of which names the elements of a table's parts are.
 use Rattle.std.proofs.Common.{◌≡◌, ◌⊎◌, inl, inr, List, [], ◌∷◌, Bool, true, false, ◌||◌, refl, ap, ◌∙◌}
-use Rattle.std.specs.Prelude.{if◌then◌else◌}
 use Rattle.pur_names.specs.declared.elements.Element.{Element}
 use Rattle.pur_names.specs.declared.elements.Element.TheVariants.{Tbody, Tr}
 use Rattle.pur_names.specs.Elements.{same_element}
-use Rattle.pur_names.proofs.ElementLaws.{same_element-Decides}
 use Rattle.pur_modules.specs.declared.kinds.Content.TheVariants.{TableParts, Rows}
 use Rattle.pur_modules.specs.declared.kinds.Doctype.{Doctype}
 use Rattle.pur_modules.specs.Contents.{content_held}
 use Rattle.pur_modules.specs.Groups.{is_among}
-use Rattle.pur_tree.specs.Nodes.{PlainElem, plain_elem, bare, Nodes, no_nodes, text_first, elem_first, nodes_append}
+use Rattle.pur_tree.specs.Nodes.{PlainElem, Nodes, no_nodes, text_first, elem_first, nodes_append}
 use Rattle.pur_tree.specs.Properties.{Holds, letters}
 use Rattle.pur_nesting.specs.declared.roles.Role.{Role}
-use Rattle.pur_nesting.specs.declared.roles.Role.TheVariants.{Title, Column, ColumnGroup, Header, Footer, Body, Row, Stranger}
+use Rattle.pur_nesting.specs.declared.roles.Role.TheVariants.{Title, Header, Footer, Body, Row, Stranger}
 use Rattle.pur_nesting.specs.declared.roles.Part.{Part}
 use Rattle.pur_nesting.specs.declared.roles.Part.TheVariants.{Captions, Heads, Feet, Bodies}
 use Rattle.pur_nesting.specs.Parts.{role_of, same_role}
-use Rattle.pur_nesting.specs.Tables.{has_child, from_first_element, is_head_or_foot, as_body, as_bodies, run_of_rows, runs_in_bodies, of_one_kind}
+use Rattle.pur_nesting.specs.Tables.{has_child, from_first_element, is_head_or_foot, as_body, as_bodies, runs_in_bodies, of_one_kind}
 use Rattle.pur_nesting.proofs.RoleLemmas.{element_with, of_role, may_hold}
 use Rattle.pur_nesting.proofs.HoldsLemmas.{Fits}
-use Rattle.pur_nesting.proofs.LetterLemmas.{held_rows, only_rows, at_kind}
+use Rattle.pur_nesting.proofs.LetterLemmas.{only_rows, at_kind}
 use Rattle.pur_nesting.proofs.OrderLemmas.{Only}
+use Rattle.pur_nesting.proofs.TableLemmas.{each_body}
 
 Only-append : (es : List Element) (f g : Nodes) → Only es f → Only es g → Only es (nodes_append f g)
 Only-append es no_nodes g o p = p
@@ -69,24 +68,23 @@ Only-from_first_element es no_nodes o = tt
 Only-from_first_element es (text_first s f) o = Only-from_first_element es f o
 Only-from_first_element es (elem_first e kids f) o = o
 
-Only-as_body : (d : Doctype) (tbody : Bool) (e : PlainElem) (kids : Nodes) → may_hold Bodies (role_of e.name) ≡ true → Holds (letters d) (content_held d e.name TableParts) kids
-    → Only (Tbody ∷ Tr ∷ []) (as_body tbody e kids)
-Only-as_body d tbody e kids fits h = go (role_of e.name) refl fits tbody
+-- what may stand as a body, and is no head and no foot, is a body or a row
+body_or_row : (e : Element) → may_hold Bodies (role_of e) ≡ true → is_head_or_foot (role_of e) ≡ false → is_among (Tbody ∷ Tr ∷ []) e ≡ true
+body_or_row e fits other = go (role_of e) refl fits other
   where
-    rows : (b : Bool) → Holds (letters d) Rows kids → Only (Tbody ∷ Tr ∷ []) (if b then elem_first (plain_elem Tbody e.attrs) kids no_nodes else from_first_element kids)
-    rows true l = (refl, tt)
-    rows false l = Only-from_first_element (Tbody ∷ Tr ∷ []) kids (Only-rows d kids l)
+    go : (r : Role) → role_of e ≡ r → may_hold Bodies r ≡ true → is_head_or_foot r ≡ false → is_among (Tbody ∷ Tr ∷ []) e ≡ true
+    go Body is k h = ap (is_among (Tbody ∷ Tr ∷ [])) (of_role e Body is refl)
+    go Row is k h = ap (is_among (Tbody ∷ Tr ∷ [])) (of_role e Row is refl)
+    go Header is k h = absurd (cc)
+    go Footer is k h = absurd (cc)
+    go r is k h = absurd (cc)
 
-    go : (r : Role) → role_of e.name ≡ r → may_hold Bodies r ≡ true → (b : Bool)
-        → Only (Tbody ∷ Tr ∷ []) (if is_head_or_foot r then (if b then elem_first (plain_elem Tbody e.attrs) kids no_nodes else from_first_element kids) else elem_first e kids no_nodes)
-    go Header is k b = rows b (at_kind d (content_held d e.name TableParts) Rows kids (ap (λ x. content_held d x TableParts) (of_role e.name Header is refl) ∙ (held_rows d TableParts).0) h)
-    go Footer is k b = rows b (at_kind d (content_held d e.name TableParts) Rows kids (ap (λ x. content_held d x TableParts) (of_role e.name Footer is refl) ∙ (held_rows d TableParts).1) h)
-    go Body is k b = (ap (is_among (Tbody ∷ Tr ∷ [])) (of_role e.name Body is refl), tt)
-    go Row is k b = (ap (is_among (Tbody ∷ Tr ∷ [])) (of_role e.name Row is refl), tt)
-    go Title is k b = absurd (cc)
-    go Column is k b = absurd (cc)
-    go ColumnGroup is k b = absurd (cc)
-    go Stranger is k b = absurd (cc)
+Only-as_body : (d : Doctype) (tbody : Bool) (e : PlainElem) (kids : Nodes) → may_hold Bodies (role_of e.name) ≡ true
+    → Holds (letters d) (content_held d e.name TableParts) kids → Only (Tbody ∷ Tr ∷ []) (as_body tbody e kids)
+Only-as_body d tbody e kids fits h =
+    each_body (Only (Tbody ∷ Tr ∷ [])) d tbody e kids (λ rows. (refl, tt))
+    (λ rows. Only-from_first_element (Tbody ∷ Tr ∷ []) kids (Only-rows d kids (at_kind d (content_held d e.name TableParts) Rows kids rows h)))
+    (λ other. (body_or_row e.name fits other, tt))
 
 pub Only-as_bodies : (d : Doctype) (tbody : Bool) (f : Nodes) → Fits Bodies f → Holds (letters d) TableParts f → Only (Tbody ∷ Tr ∷ []) (as_bodies tbody f)
 Only-as_bodies d tbody no_nodes fits h = tt
@@ -100,7 +98,7 @@ body_left e no_row h = go (same_element e Tbody) refl (same_element e Tr) refl h
   where
     go : (b : Bool) → same_element e Tbody ≡ b → (c : Bool) → same_element e Tr ≡ c → (b || (c || false)) ≡ true → (b || false) ≡ true
     go true be c ce k = refl
-    go false be true ce k = let named : e ≡ Tr = (same_element-Decides e Tr).0 ce in let x : same_element Tr Tr ≡ false = rw named at no_row in absurd (cc)
+    go false be true ce k = absurd (cc (ce, no_row))
     go false be false ce k = absurd (cc)
 
 Only-runs : (in_run : Bool) (f : Nodes) → Only (Tbody ∷ Tr ∷ []) f → Only (Tbody ∷ []) (runs_in_bodies in_run f)
@@ -110,10 +108,10 @@ Only-runs false (text_first s f) o = Only-runs false f o
 Only-runs in_run (elem_first e kids f) o = go (same_element e.name Tr) refl in_run (Only-runs true f o.1) (Only-runs false f o.1)
   where
     go : (b : Bool) → same_element e.name Tr ≡ b → (i : Bool) → Only (Tbody ∷ []) (runs_in_bodies true f) → Only (Tbody ∷ []) (runs_in_bodies false f)
-        → Only (Tbody ∷ []) (if b then (if i then runs_in_bodies true f else elem_first (bare Tbody) (elem_first e kids (run_of_rows f)) (runs_in_bodies true f)) else elem_first e kids (runs_in_bodies false f))
-    go true is true r s = r
-    go true is false r s = (refl, r)
-    go false is i r s = (body_left e.name is o.0, s)
+        → Only (Tbody ∷ []) (runs_in_bodies i (elem_first e kids f))
+    go true is true r s = rw is r
+    go true is false r s = rw is (refl, r)
+    go false is i r s = rw is (body_left e.name is o.0, s)
 
 -- without a body there are rows alone
 Only-no_body : (f : Nodes) → has_child (Tbody ∷ []) f ≡ false → Only (Tbody ∷ Tr ∷ []) f → Only (Tr ∷ []) f
@@ -130,6 +128,6 @@ Only-no_body (elem_first e kids f) h o = go (same_element e.name Tbody) refl h o
 pub bodies_alike : (f : Nodes) → Only (Tbody ∷ Tr ∷ []) f → Only (Tbody ∷ []) (of_one_kind f) ⊎ Only (Tr ∷ []) (of_one_kind f)
 bodies_alike f o = go (has_child (Tbody ∷ []) f) refl
   where
-    go : (b : Bool) → has_child (Tbody ∷ []) f ≡ b → Only (Tbody ∷ []) (if b then runs_in_bodies false f else f) ⊎ Only (Tr ∷ []) (if b then runs_in_bodies false f else f)
-    go true is = inl (Only-runs false f o)
-    go false is = inr (Only-no_body f is o)
+    go : (b : Bool) → has_child (Tbody ∷ []) f ≡ b → Only (Tbody ∷ []) (of_one_kind f) ⊎ Only (Tr ∷ []) (of_one_kind f)
+    go true is = rw is (inl (Only-runs false f o))
+    go false is = rw is (inr (Only-no_body f is o))

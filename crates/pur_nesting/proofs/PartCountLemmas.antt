@@ -1,9 +1,10 @@
 -- The parts of a table have each character that it has.
 use Rattle.std.proofs.Common.{◌≡◌, ℕ, ◌+◌, [], ◌∷◌, Bool, true, false, refl, arith}
 use Rattle.std.specs.Prelude.{if◌then◌else◌}
+use Rattle.pur_laws.proofs.Truth.{either}
 use Rattle.pur_names.specs.declared.elements.Element.TheVariants.{Tbody, Tr}
 use Rattle.pur_names.specs.Elements.{same_element}
-use Rattle.pur_tree.specs.Nodes.{PlainElem, bare, Nodes, no_nodes, text_first, elem_first, nodes_append}
+use Rattle.pur_tree.specs.Nodes.{PlainElem, Nodes, no_nodes, text_first, elem_first, nodes_append}
 use Rattle.pur_tree.specs.Walks.{count_in_text}
 use Rattle.pur_tree.proofs.WalkLemmas.{count_in_text-append}
 use Rattle.pur_nesting.specs.declared.roles.Part.{Part}
@@ -41,27 +42,32 @@ parts_have_all c m (elem_first e kids f) =
     let put = count_in_parts-put c n.part (λ w. part w n f) (elem_first e kids no_nodes) (elem_first e kids) (λ g. omega arith) in
     omega (arith, put, parts_have_all c n f)
 
--- rows that go into bodies stay
-count_in_text-runs : (c : ℕ) (f : Nodes) → (count_in_text c (runs_in_bodies false f) ≡ count_in_text c f) × (count_in_text c (run_of_rows f) + count_in_text c (runs_in_bodies true f) ≡ count_in_text c f)
-count_in_text-runs c no_nodes = (refl, refl)
-count_in_text-runs c (text_first s f) = let r = count_in_text-runs c f in (omega (arith, r.0), omega (arith, r.1))
-count_in_text-runs c (elem_first e kids f) = go (same_element e.name Tr) (count_in_text-runs c f)
+-- rows that go into bodies stay: those that begin a run, and what a run puts into its body together with what is left
+abbrev RunsHaveAll : ℕ → Nodes → Type 0
+RunsHaveAll c f =
+    (count_in_text c (runs_in_bodies false f) ≡ count_in_text c f)
+    × (count_in_text c (run_of_rows f) + count_in_text c (runs_in_bodies true f) ≡ count_in_text c f)
+
+runs_have_all : (c : ℕ) (f : Nodes) → RunsHaveAll c f
+runs_have_all c no_nodes = (refl, refl)
+runs_have_all c (text_first s f) = let r = runs_have_all c f in (omega (arith, r.0), omega (arith, r.1))
+runs_have_all c (elem_first e kids f) = go (same_element e.name Tr) refl (runs_have_all c f)
   where
-    go : (b : Bool) → (count_in_text c (runs_in_bodies false f) ≡ count_in_text c f) × (count_in_text c (run_of_rows f) + count_in_text c (runs_in_bodies true f) ≡ count_in_text c f)
-        → (count_in_text c (if b then elem_first (bare Tbody) (elem_first e kids (run_of_rows f)) (runs_in_bodies true f) else elem_first e kids (runs_in_bodies false f)) ≡ count_in_text c kids + count_in_text c f)
-        × (count_in_text c (if b then elem_first e kids (run_of_rows f) else no_nodes) + count_in_text c (if b then runs_in_bodies true f else elem_first e kids (runs_in_bodies false f)) ≡ count_in_text c kids + count_in_text c f)
-    go true r = (omega (arith, r.1), omega (arith, r.1))
-    go false r = (omega (arith, r.0), omega (arith, r.0))
+    go : (b : Bool) → same_element e.name Tr ≡ b → RunsHaveAll c f → RunsHaveAll c (elem_first e kids f)
+    go true is r = rw is (omega (arith, r.1), omega (arith, r.1))
+    go false is r = rw is (omega (arith, r.0), omega (arith, r.0))
 
 count_in_text-of_one_kind : (c : ℕ) (f : Nodes) → count_in_text c (of_one_kind f) ≡ count_in_text c f
-count_in_text-of_one_kind c f = go (has_child (Tbody ∷ []) f)
-  where
-    go : (b : Bool) → count_in_text c (if b then runs_in_bodies false f else f) ≡ count_in_text c f
-    go true = (count_in_text-runs c f).0
-    go false = refl
+count_in_text-of_one_kind c f =
+    either (λ g. count_in_text c g ≡ count_in_text c f) (has_child (Tbody ∷ []) f) (runs_in_bodies false f) f (runs_have_all c f).0 refl
 
-pub count_in_text-table : (c : ℕ) (e : PlainElem) (x y z u v w : Nodes)
-    → count_in_text c (table e x y z u v w) ≡ count_in_text c x + (count_in_text c y + (count_in_text c z + (count_in_text c u + (count_in_text c v + count_in_text c w))))
+-- a table of six parts has what they have
+abbrev pub Sums : ℕ → PlainElem → Nodes → Nodes → Nodes → Nodes → Nodes → Nodes → Type 0
+Sums c e lead captions columns heads feet bodies =
+    count_in_text c (table e lead captions columns heads feet bodies)
+    ≡ count_in_text c lead + (count_in_text c captions + (count_in_text c columns + (count_in_text c heads + (count_in_text c feet + count_in_text c bodies))))
+
+pub count_in_text-table : (c : ℕ) (e : PlainElem) (lead captions columns heads feet bodies : Nodes) → Sums c e lead captions columns heads feet bodies
 count_in_text-table c e x y z u v w =
     omega (
       arith,

@@ -1,6 +1,5 @@
 -- A table's parts in their order are a word of a table.
 use Rattle.std.proofs.Common.{◌≡◌, ◌≤◌, ◌⊎◌, inl, inr, length, [], ◌∷◌, ◌++◌, Bool, true, false, not, ◌&&◌, refl, ap, ◌∙◌, arith}
-use Rattle.std.specs.Prelude.{if◌then◌else◌}
 use Rattle.std.proofs.lemmas.Bool.{and_from}
 use Rattle.pur_text.specs.Characters.{is_blank}
 use Rattle.pur_names.specs.declared.elements.Element.{Element}
@@ -10,21 +9,20 @@ use Rattle.pur_modules.specs.Expressions.{optional, any_of, some_of, elems}
 use Rattle.pur_models.specs.Languages.{IsRun, all_among}
 use Rattle.pur_models.specs.Laws.{IsTableWord}
 use Rattle.pur_tree.specs.Nodes.{Nodes, no_nodes, text_first, elem_first, nodes_append}
-use Rattle.pur_tree.specs.Properties.{letters}
 use Rattle.pur_tree.specs.Words.{word_of}
 use Rattle.pur_nesting.proofs.OneLemmas.{NoElems, AtMostOne}
-use Rattle.pur_nesting.proofs.BlankLemmas.{Blank, word-NoElems}
+use Rattle.pur_nesting.proofs.BlankLemmas.{Blank, word-NoElems, HasElems, word-HasElems}
 use Rattle.pur_nesting.proofs.OrderLemmas.{Only}
-use Rattle.pur_nesting.proofs.BodyLemmas.{HasElems, word-HasElems}
+use Rattle.pur_nesting.proofs.ColumnLemmas.{AreAlike}
 
-pub word_of-append : (t : Bool) (f g : Nodes) → word_of t (nodes_append f g) ≡ word_of t f ++ word_of t g
+word_of-append : (t : Bool) (f g : Nodes) → word_of t (nodes_append f g) ≡ word_of t f ++ word_of t g
 word_of-append t no_nodes g = refl
-word_of-append t (text_first s f) g = go (not t && is_blank s) (word_of-append t f g)
+word_of-append t (text_first s f) g = go (not t && is_blank s) refl (word_of-append t f g)
   where
-    go : (b : Bool) → word_of t (nodes_append f g) ≡ word_of t f ++ word_of t g
-        → (if b then word_of t (nodes_append f g) else (Text ∷ word_of t (nodes_append f g))) ≡ (if b then word_of t f else (Text ∷ word_of t f)) ++ word_of t g
-    go true r = r
-    go false r = ap (λ w. Text ∷ w) r
+    go : (b : Bool) → (not t && is_blank s) ≡ b → word_of t (nodes_append f g) ≡ word_of t f ++ word_of t g
+        → word_of t (nodes_append (text_first s f) g) ≡ word_of t (text_first s f) ++ word_of t g
+    go true is r = rw is r
+    go false is r = rw is (ap (λ w. Text ∷ w) r)
 word_of-append t (elem_first e kids f) g = ap (λ w. Elem e.name ∷ w) (word_of-append t f g)
 
 word-AtMostOne : (f : Nodes) → Blank f → AtMostOne f → length (word_of false f) ≤ 1
@@ -47,24 +45,33 @@ run_of_any x f b o = record { letters = word-Only x f b o; least = omega arith; 
 run_of_some : (x : Element) (f : Nodes) → Blank f → Only (x ∷ []) f → HasElems f → IsRun (some_of (elems (x ∷ []))) (word_of false f)
 run_of_some x f b o s = record { letters = word-Only x f b o; least = word-HasElems false f s; most = λ m. absurd (cc) }
 
--- a table's parts in order are a word of a table
-pub table_word : (lead captions columns heads feet bodies : Nodes) → Blank lead → NoElems lead → Blank captions → Only (Caption ∷ []) captions → AtMostOne captions
-    → Blank columns → Only (Col ∷ []) columns ⊎ Only (Colgroup ∷ []) columns → Blank heads → Only (Thead ∷ []) heads → AtMostOne heads
-    → Blank feet → Only (Tfoot ∷ []) feet → AtMostOne feet → Blank bodies → Only (Tbody ∷ []) bodies ⊎ Only (Tr ∷ []) bodies → HasElems bodies
-    → IsTableWord (word_of false (nodes_append lead (nodes_append captions (nodes_append columns (nodes_append heads (nodes_append feet bodies))))))
+-- the parts of a table in their order
+abbrev pub in_order : Nodes → Nodes → Nodes → Nodes → Nodes → Nodes → Nodes
+in_order lead captions columns heads feet bodies =
+    nodes_append lead (nodes_append captions (nodes_append columns (nodes_append heads (nodes_append feet bodies))))
+
+-- they are a word of a table
+pub table_word : (lead captions columns heads feet bodies : Nodes) → Blank lead → NoElems lead
+    → Blank captions → Only (Caption ∷ []) captions → AtMostOne captions
+    → Blank columns → AreAlike columns
+    → Blank heads → Only (Thead ∷ []) heads → AtMostOne heads → Blank feet → Only (Tfoot ∷ []) feet → AtMostOne feet
+    → Blank bodies → Only (Tbody ∷ []) bodies ⊎ Only (Tr ∷ []) bodies → HasElems bodies
+    → IsTableWord (word_of false (in_order lead captions columns heads feet bodies))
 table_word lead captions columns heads feet bodies lb ln cb co c1 kb ko hb ho h1 fb fo f1 bb bo bs = go ko bo
   where
-    word : word_of false (nodes_append lead (nodes_append captions (nodes_append columns (nodes_append heads (nodes_append feet bodies)))))
+    behind_lead : Nodes
+    behind_lead = nodes_append captions (nodes_append columns (nodes_append heads (nodes_append feet bodies)))
+
+    word : word_of false (in_order lead captions columns heads feet bodies)
         ≡ word_of false captions ++ (word_of false columns ++ (word_of false heads ++ (word_of false feet ++ word_of false bodies)))
-    word = word_of-append false lead (nodes_append captions (nodes_append columns (nodes_append heads (nodes_append feet bodies))))
-        ∙ ap (λ x. x ++ word_of false (nodes_append captions (nodes_append columns (nodes_append heads (nodes_append feet bodies))))) (word-NoElems lead lb ln)
+    word = word_of-append false lead behind_lead ∙ ap (λ x. x ++ word_of false behind_lead) (word-NoElems lead lb ln)
         ∙ word_of-append false captions (nodes_append columns (nodes_append heads (nodes_append feet bodies)))
         ∙ ap (λ x. word_of false captions ++ x) (word_of-append false columns (nodes_append heads (nodes_append feet bodies))
         ∙ ap (λ x. word_of false columns ++ x) (word_of-append false heads (nodes_append feet bodies)
         ∙ ap (λ x. word_of false heads ++ x) (word_of-append false feet bodies)))
 
     made : (x y : Element) → (x ≡ Col) ⊎ (x ≡ Colgroup) → (y ≡ Tbody) ⊎ (y ≡ Tr) → Only (x ∷ []) columns → Only (y ∷ []) bodies
-        → IsTableWord (word_of false (nodes_append lead (nodes_append captions (nodes_append columns (nodes_append heads (nodes_append feet bodies))))))
+        → IsTableWord (word_of false (in_order lead captions columns heads feet bodies))
     made x y xk yk xo yo = record {
       column = x;
       body = y;
@@ -83,8 +90,8 @@ table_word lead captions columns heads feet bodies lb ln cb co c1 kb ko hb ho h1
       joined = word;
     }
 
-    go : Only (Col ∷ []) columns ⊎ Only (Colgroup ∷ []) columns → Only (Tbody ∷ []) bodies ⊎ Only (Tr ∷ []) bodies
-        → IsTableWord (word_of false (nodes_append lead (nodes_append captions (nodes_append columns (nodes_append heads (nodes_append feet bodies))))))
+    go : AreAlike columns → Only (Tbody ∷ []) bodies ⊎ Only (Tr ∷ []) bodies
+        → IsTableWord (word_of false (in_order lead captions columns heads feet bodies))
     go (inl k) (inl b) = made Col Tbody (inl refl) (inl refl) k b
     go (inl k) (inr b) = made Col Tr (inl refl) (inr refl) k b
     go (inr k) (inl b) = made Colgroup Tbody (inr refl) (inl refl) k b

@@ -15,7 +15,6 @@ use Rattle.pur_modules.specs.declared.kinds.Doctype.{Doctype}
 use Rattle.pur_modules.specs.Contents.{content_held}
 use Rattle.pur_modules.specs.Expressions.{is_letter, has_text_letter}
 use Rattle.pur_models.specs.Languages.{Language}
-use Rattle.pur_models.specs.Laws.{may_be_empty}
 use Rattle.pur_models.proofs.WordLemmas.{words_are_allowed, empty_if, parts_of_table}
 use Rattle.pur_tree.specs.Nodes.{Nodes, no_nodes, text_first, elem_first, starts_with_text, is_joined}
 use Rattle.pur_tree.specs.Properties.{Holds, letters}
@@ -32,7 +31,8 @@ use Rattle.pur_nesting.proofs.JoinedWordsLemmas.{HaveWords-nested}
 use Rattle.pur_nesting.proofs.SettledLemmas.{settled_same}
 
 -- an element whose children are a word of what it holds doesn't vanish
-stays_there : (d : Doctype) (k : Content) (e : Element) (kids : Nodes) → Holds (letters d) (content_held d e k) kids → IsWord d (content_held d e k) kids → vanishes e kids ≡ false
+stays_there : (d : Doctype) (k : Content) (e : Element) (kids : Nodes) → Holds (letters d) (content_held d e k) kids
+    → IsWord d (content_held d e k) kids → vanishes e kids ≡ false
 stays_there d k e kids l w = go (vanishes e kids) refl
   where
     go : (b : Bool) → vanishes e kids ≡ b → b ≡ false
@@ -40,7 +40,7 @@ stays_there d k e kids l w = go (vanishes e kids) refl
     go true is =
         let v = vanished d k e kids is l in
         let word : word_of (has_text_letter d (content_held d e k)) kids ≡ [] = rw v.0 (word-NoElems kids v.2 v.3) in
-        let empty : may_be_empty (content_held d e k) ≡ true = empty_if d (content_held d e k) (subst (λ x. Language d (content_held d e k) x) word w) in
+        let empty = empty_if d (content_held d e k) (subst (λ x. Language d (content_held d e k) x) word w) in
         let never = v.1 in absurd (cc)
 
 words_settled : (d : Doctype) (k : Content) (f : Nodes) → Holds (letters d) k f → HaveWords d k f → is_joined f ≡ true → IsSettled f
@@ -60,31 +60,34 @@ words_settled d k (elem_first e kids f) l h j =
     )
 
 -- words have letters of their content alone
-letters_of_word : (d : Doctype) (k : Content) (f : Nodes) → list_all (is_letter d k) (word_of (has_text_letter d k) f) ≡ true → HaveWords d k f → Holds (letters d) k f
+letters_of_word : (d : Doctype) (k : Content) (f : Nodes) → list_all (is_letter d k) (word_of (has_text_letter d k) f) ≡ true
+    → HaveWords d k f → Holds (letters d) k f
 letters_of_word d k no_nodes w h = tt
 letters_of_word d k (text_first s f) w h = go (has_text_letter d k) refl (is_blank s) refl w (λ v. letters_of_word d k f v h)
   where
     go : (t : Bool) → has_text_letter d k ≡ t → (b : Bool) → is_blank s ≡ b
         → list_all (is_letter d k) (if not t && b then word_of (has_text_letter d k) f else (Text ∷ word_of (has_text_letter d k) f)) ≡ true
         → (list_all (is_letter d k) (word_of (has_text_letter d k) f) ≡ true → Holds (letters d) k f) → Holds (letters d) k (text_first s f)
-    go true te b be v r = (rw te (or_true (is_blank s)), r (and_parts (is_letter d k Text) (list_all (is_letter d k) (word_of (has_text_letter d k) f)) v).1)
+    go true te b be v r =
+        let parts = and_parts (is_letter d k Text) (list_all (is_letter d k) (word_of (has_text_letter d k) f)) v in
+        (rw te (or_true (is_blank s)), r parts.1)
     go false te true be v r = (rw be refl, r v)
     go false te false be v r =
         let parts = and_parts (is_letter d k Text) (list_all (is_letter d k) (word_of (has_text_letter d k) f)) v in
         (rw be parts.0, r parts.1)
 letters_of_word d k (elem_first e kids f) w h =
-    let parts = and_parts (is_letter d k (Elem e.name)) (list_all (is_letter d k) (word_of (has_text_letter d k) f)) w in (
-      parts.0,
-      letters_of_word d (content_held d e.name k) kids (words_are_allowed d (content_held d e.name k) (word_of (has_text_letter d (content_held d e.name k)) kids) h.0) h.1,
-      letters_of_word d k f parts.1 h.2,
-    )
+    let parts = and_parts (is_letter d k (Elem e.name)) (list_all (is_letter d k) (word_of (has_text_letter d k) f)) w in
+    let held = content_held d e.name k in
+    let inner = words_are_allowed d held (word_of (has_text_letter d held) kids) h.0 in
+    (parts.0, letters_of_word d held kids inner h.1, letters_of_word d k f parts.1 h.2)
 
 pub valid_settled : (d : Doctype) (k : Content) (f : Nodes) → IsWord d k f → HaveWords d k f → is_joined f ≡ true → IsSettled f
 valid_settled d k f w h j = words_settled d k f (letters_of_word d k f (words_are_allowed d k (word_of (has_text_letter d k) f) w) h) h j
 
 -- what repair leaves is settled, and needs no repair
 pub nested_settled : (d : Doctype) (p : Permits) (k : Content) (f : Nodes) → Holds (letters d) k f → IsSettled (nested p f)
-nested_settled d p k f l = words_settled d k (nested p f) (letters_nested d p k f l) (HaveWords-nested d p k f l) (is_joined-joined_nodes (walk (repair p) f))
+nested_settled d p k f l =
+    words_settled d k (nested p f) (letters_nested d p k f l) (HaveWords-nested d p k f l) (is_joined-joined_nodes (walk (repair p) f))
 
 pub nested_twice : (d : Doctype) (p : Permits) (k : Content) (f : Nodes) → Holds (letters d) k f → nested p (nested p f) ≡ nested p f
 nested_twice d p k f l = settled_same p (nested p f) (nested_settled d p k f l)

@@ -1,5 +1,5 @@
 -- Where an element stays its children are a word of what it holds.
-use Rattle.std.proofs.Common.{◌≡◌, ◌<◌, length, List, [], ◌∷◌, Bool, true, false, not, ◌&&◌, ◌||◌, refl, sym, subst, arith}
+use Rattle.std.proofs.Common.{◌≡◌, List, [], ◌∷◌, Bool, true, false, not, ◌&&◌, ◌||◌, refl, sym, subst}
 use Rattle.std.specs.Prelude.{if◌then◌else◌}
 use Rattle.std.specs.List.{list_all}
 use Rattle.std.proofs.lemmas.Bool.{and_from, and_parts}
@@ -24,11 +24,13 @@ use Rattle.pur_tree.specs.Words.{word_of, IsWord}
 use Rattle.pur_nesting.specs.Tables.{has_child}
 use Rattle.pur_nesting.specs.Nesting.{needed_by, vanishes}
 use Rattle.pur_nesting.proofs.LetterLemmas.{space_in}
+use Rattle.pur_nesting.proofs.BlankLemmas.{word-HasElems, child-HasElems}
 use Rattle.pur_nesting.proofs.NeededLemmas.{needs}
 use Rattle.pur_modules.proofs.KindLaws.{each_kind}
 
 -- letters make words of letters
-pub letters_word : (d : Doctype) (k : Content) (f : Nodes) → Holds (letters d) k f → list_all (is_letter d k) (word_of (has_text_letter d k) f) ≡ true
+pub letters_word : (d : Doctype) (k : Content) (f : Nodes) → Holds (letters d) k f
+    → list_all (is_letter d k) (word_of (has_text_letter d k) f) ≡ true
 letters_word d k no_nodes h = refl
 letters_word d k (text_first s f) h = go (has_text_letter d k) refl (letters_word d k f h.1)
   where
@@ -37,16 +39,6 @@ letters_word d k (text_first s f) h = go (has_text_letter d k) refl (letters_wor
     go true is r = and_from _ _ is r
     go false is r = let space = space_in d k s is h.0 in rw space r
 letters_word d k (elem_first e kids f) h = and_from _ _ h.0 (letters_word d k f h.2)
-
--- a child that is there is a letter of the word
-some_child : (es : List Element) (t : Bool) (f : Nodes) → has_child es f ≡ true → 0 < length (word_of t f)
-some_child es t no_nodes h = absurd (cc)
-some_child es t (text_first s f) h = go (not t && is_blank s) (some_child es t f h)
-  where
-    go : (b : Bool) → 0 < length (word_of t f) → 0 < length (if b then word_of t f else (Text ∷ word_of t f))
-    go true r = r
-    go false r = omega arith
-some_child es t (elem_first e kids f) h = omega arith
 
 -- what an element holds takes any number, or nothing; or is a table's parts; or the element needs a child
 abbrev kind_is_known : Doctype → Content → Element → Bool
@@ -71,31 +63,36 @@ nothing_word d (Elem e) = refl
 
 word_of_nothing : (d : Doctype) (w : List Child) → list_all (is_letter d Nothing) w ≡ true → Language d Nothing w
 word_of_nothing d [] h = if_empty d Nothing refl
-word_of_nothing d (c ∷ w) h = let n = nothing_word d c in let y : is_letter d Nothing c ≡ true = (and_parts (is_letter d Nothing c) (list_all (is_letter d Nothing) w) h).0 in absurd (cc)
+word_of_nothing d (c ∷ w) h =
+    let none = nothing_word d c in
+    let some = (and_parts (is_letter d Nothing c) (list_all (is_letter d Nothing) w) h).0 in absurd (cc)
 
 -- an element that is no table and doesn't vanish has a word for its children
 pub word_of_element : (d : Doctype) (k : Content) (e : Element) (kids : Nodes) → same_element e Table ≡ false → vanishes e kids ≡ false
     → Holds (letters d) (content_held d e k) kids → IsWord d (content_held d e k) kids
 word_of_element d k e kids no_table stays h =
-    go (takes_any_number (content_held d e k)) refl (is_nothing (content_held d e k)) refl (takes_one_or_more (content_held d e k)) refl (needs e) refl
-    (rw no_table at (kind_known d k e))
+    go (takes_any_number held) refl (is_nothing held) refl (takes_one_or_more held) refl (needs e) refl (rw no_table at (kind_known d k e))
   where
+    held : Content
+    held = content_held d e k
+
     word : List Child
     word = word_of (has_text_letter d (content_held d e k)) kids
 
     all : list_all (is_letter d (content_held d e k)) (word_of (has_text_letter d (content_held d e k)) kids) ≡ true
     all = letters_word d (content_held d e k) kids h
 
-    go : (a : Bool) → takes_any_number (content_held d e k) ≡ a → (b : Bool) → is_nothing (content_held d e k) ≡ b → (c : Bool) → takes_one_or_more (content_held d e k) ≡ c
-        → (n : Bool) → needs e ≡ n → (a || (b || (false || (c && n)))) ≡ true → IsWord d (content_held d e k) kids
-    go true ae b be c ce n ne known = any_letters d (content_held d e k) (word_of (has_text_letter d (content_held d e k)) kids) ae all
+    go : (a : Bool) → takes_any_number (content_held d e k) ≡ a → (b : Bool) → is_nothing (content_held d e k) ≡ b
+        → (c : Bool) → takes_one_or_more (content_held d e k) ≡ c → (n : Bool) → needs e ≡ n
+        → (a || (b || (false || (c && n)))) ≡ true → IsWord d (content_held d e k) kids
+    go true ae b be c ce n ne known = any_letters d (content_held d e k) word ae all
     go false ae true be c ce n ne known =
         let same = nothing_is (content_held d e k) be in
-        subst (λ x. Language d x (word_of (has_text_letter d (content_held d e k)) kids)) (sym same)
-        (word_of_nothing d (word_of (has_text_letter d (content_held d e k)) kids) (subst (λ x. list_all (is_letter d x) (word_of (has_text_letter d (content_held d e k)) kids) ≡ true) same all))
+        subst (λ x. Language d x word) (sym same) (word_of_nothing d word (subst (λ x. list_all (is_letter d x) word ≡ true) same all))
     go false ae false be true ce true ne known =
         let there : has_child (needed_by e) kids ≡ true = not_gone (has_child (needed_by e) kids) (rw ne at stays) in
-        some_letters d (content_held d e k) (word_of (has_text_letter d (content_held d e k)) kids) ce (some_child (needed_by e) (has_text_letter d (content_held d e k)) kids there) all
+        let some = word-HasElems (has_text_letter d (content_held d e k)) kids (child-HasElems (needed_by e) kids there) in
+        some_letters d (content_held d e k) word ce some all
       where
         not_gone : (b : Bool) → (true && not b) ≡ false → b ≡ true
         not_gone true h = refl

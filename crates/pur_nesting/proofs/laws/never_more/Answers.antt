@@ -2,4 +2,4 @@ use Rattle.pur_nesting.proofs.NeverMoreLemmas.{never_more}
 use Rattle.pur_nesting.proofs.laws.never_more.Goals as goal
 
 pub returns : goal.returns
-returns c = λ p c nodes. never_more c p nodes
+returns c = never_more
