@@ -1,24 +1,23 @@
 -- Properties that hold at every depth, through repair.
-use Rattle.std.proofs.Common.{◌≡◌, ℕ, List, [], ◌∷◌, ◌++◌, Bool, true, false, not, ◌&&◌, ◌||◌, refl, ap, sym, ◌∙◌, subst}
+use Rattle.std.proofs.Common.{◌≡◌, List, [], ◌∷◌, Bool, true, false, not, ◌&&◌, ◌||◌, refl, sym, subst}
 use Rattle.std.specs.Prelude.{if◌then◌else◌}
 use Rattle.pur_names.specs.declared.elements.Element.{Element}
 use Rattle.pur_names.specs.declared.elements.Element.TheVariants.{Caption, P, Table, Tbody, Tfoot, Thead, Tr}
 use Rattle.pur_names.specs.Elements.{same_element}
 use Rattle.pur_names.proofs.ElementLaws.{same_element-Decides}
-use Rattle.pur_modules.specs.Groups.{is_among}
 use Rattle.pur_tokens.specs.Attributes.{Attribute}
 use Rattle.pur_tree.specs.Nodes.{PlainElem, plain_elem, bare, Nodes, no_nodes, text_first, elem_first, nodes_append, has_no_nodes}
 use Rattle.pur_nesting.specs.declared.permits.Permits.{Permits}
 use Rattle.pur_nesting.specs.declared.roles.Role.{Role}
 use Rattle.pur_nesting.specs.declared.roles.Role.TheVariants.{Title, Column, ColumnGroup, Header, Footer, Body, Row, Stranger}
 use Rattle.pur_nesting.specs.declared.roles.Part.{Part}
-use Rattle.pur_nesting.specs.declared.roles.Part.TheVariants.{Lead, Captions, Columns, Heads, Feet, Bodies, Surplus}
+use Rattle.pur_nesting.specs.declared.roles.Part.TheVariants.{Lead, Captions, Columns, Heads, Feet, Bodies}
 use Rattle.pur_nesting.specs.declared.roles.Met.{Met}
-use Rattle.pur_nesting.specs.Parts.{role_of, same_role, same_part, next, part, at_first}
+use Rattle.pur_nesting.specs.Parts.{role_of, same_part, next, part, at_first}
 use Rattle.pur_tree.specs.Properties.{Property, Holds}
-use Rattle.pur_nesting.specs.Tables.{has_child, are_blank, from_first_element, is_head_or_foot, as_body, as_bodies, run_of_rows, runs_in_bodies, of_one_kind, table, paragraph_of, without_bodies, table_of_parts, parts_of, repaired_table}
+use Rattle.pur_nesting.specs.Tables.{has_child, are_blank, from_first_element, is_head_or_foot, as_body, as_bodies, run_of_rows, runs_in_bodies, of_one_kind, table, paragraph_of, without_bodies, parts_of, repaired_table}
 use Rattle.pur_nesting.specs.Nesting.{vanishes, repair, nested}
-use Rattle.pur_tree.specs.Walks.{walk, joined_nodes}
+use Rattle.pur_tree.specs.Walks.{walk}
 use Rattle.pur_tree.proofs.HoldsLemmas.{Holds-append, Holds-walk, Holds-joined_nodes}
 use Rattle.pur_nesting.specs.Private.Keeping.{StaysInRepair}
 use Rattle.pur_nesting.proofs.RoleLemmas.{of_role, may_hold, part_of_role, same_part-true}

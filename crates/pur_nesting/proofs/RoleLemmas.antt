@@ -1,17 +1,16 @@
 -- What roles and parts tell.
-use Rattle.std.proofs.Common.{◌≡◌, ℕ, zero, suc, List, [], ◌∷◌, Bool, true, false, not, ◌&&◌, ◌||◌, refl, ap, sym, ◌∙◌, subst}
-use Rattle.std.specs.Prelude.{if◌then◌else◌, Option, Some, None, slice_get}
-use Rattle.std.specs.List.{list_all}
+use Rattle.std.proofs.Common.{◌≡◌, Bool, true, false, ◌||◌, refl}
+use Rattle.std.specs.Prelude.{if◌then◌else◌}
 use Rattle.pur_names.specs.declared.elements.Element.{Element}
 use Rattle.pur_names.specs.declared.elements.Element.TheVariants.{Caption, Col, Colgroup, Table, Tbody, Tfoot, Thead, Tr}
-use Rattle.pur_names.specs.Elements.{same_element, all_elements, element_rank}
+use Rattle.pur_names.specs.Elements.{same_element}
 use Rattle.pur_names.proofs.ElementLaws.{each_element, same_element-Decides}
 use Rattle.pur_nesting.specs.declared.roles.Role.{Role}
 use Rattle.pur_nesting.specs.declared.roles.Role.TheVariants.{Title, Column, ColumnGroup, Header, Footer, Body, Row, Stranger}
 use Rattle.pur_nesting.specs.declared.roles.Part.{Part}
 use Rattle.pur_nesting.specs.declared.roles.Part.TheVariants.{Lead, Captions, Columns, Heads, Feet, Bodies, Surplus}
 use Rattle.pur_nesting.specs.declared.roles.Met.{Met}
-use Rattle.pur_nesting.specs.Parts.{role_of, role_rank, same_role, same_part, next}
+use Rattle.pur_nesting.specs.Parts.{role_of, same_role, same_part, next}
 
 -- the element that has a role; of a stranger this says nothing
 abbrev pub element_with : Role → Element

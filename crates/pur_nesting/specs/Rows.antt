@@ -2,7 +2,6 @@
 use Rattle.std.specs.Prelude.{ℕ, ◌≡◌, List, [], ◌∷◌, true, false, codes}
 use Rattle.pur_names.specs.declared.elements.Element.{Element}
 use Rattle.pur_names.specs.declared.elements.Element.TheVariants.{Caption, Col, Colgroup, Dd, Dl, Div, P, Table, Tbody, Td, Tfoot, Thead, Tr, Ul}
-use Rattle.pur_tokens.specs.Attributes.{Attribute}
 use Rattle.pur_tree.specs.Nodes.{bare, plain_elem, Nodes, no_nodes, text_first, elem_first, nodes_append}
 use Rattle.pur_nesting.specs.declared.permits.Permits.{Permits}
 use Rattle.pur_nesting.specs.Nesting.{nested, lost_in_nesting}

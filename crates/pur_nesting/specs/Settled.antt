@@ -1,5 +1,5 @@
 -- Nodes that need no repair.
-use Rattle.std.specs.Prelude.{◌≡◌, Bool, true, false}
+use Rattle.std.specs.Prelude.{◌≡◌, true, false}
 use Rattle.pur_names.specs.declared.elements.Element.TheVariants.{Table}
 use Rattle.pur_names.specs.Elements.{same_element}
 use Rattle.pur_models.specs.Laws.{IsTableWord}

@@ -1,7 +1,7 @@
-use Rattle.std.proofs.Common.{◌≡◌, List, [], Bool, true, false, refl, ap, sym, ◌∙◌, ◌∷◌}
+use Rattle.std.proofs.Common.{◌≡◌, List, [], Bool, true, false, ap, sym, ◌∙◌}
 use Rattle.std.specs.Prelude.{if◌then◌else◌}
 use Rattle.std.specs.Vec.Iter.{into_iter_items}
-use Rattle.pur_tree.specs.Image.{nodes_of, node_before}
+use Rattle.pur_tree.specs.Image.{nodes_of}
 use Rattle.pur_tree.specs.declared.node.Node.{Node}
 use Rattle.pur_tree.specs.Nodes.{no_nodes, nodes_append}
 use Rattle.pur_tree.proofs.NodesLemmas.{nodes_append-none}

@@ -1,4 +1,3 @@
-use Rattle.std.proofs.Common.{refl}
 use Rattle.pur_nesting.proofs.bodies.met_after.Goals as goal
 
 pub returns : goal.returns

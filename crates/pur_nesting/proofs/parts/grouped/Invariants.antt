@@ -1,6 +1,6 @@
 use Rattle.std.proofs.Common.{◌≡◌}
 use Rattle.std.specs.Vec.Iter.{into_iter_items}
-use Rattle.pur_tree.specs.Nodes.{Nodes, nodes_append}
+use Rattle.pur_tree.specs.Nodes.{nodes_append}
 use Rattle.pur_tree.specs.Image.{nodes_of}
 use Rattle.pur_nesting.specs.declared.roles.Part.{Part}
 use Rattle.pur_nesting.specs.Parts.{part, at_first}

@@ -1,4 +1,4 @@
-use Rattle.std.proofs.Common.{sym, ◌∙◌, refl, ap}
+use Rattle.std.proofs.Common.{sym, ◌∙◌, ap}
 use Rattle.pur_tree.specs.Image.{nodes_of}
 use Rattle.pur_tree.specs.Nodes.{plain_elem, no_nodes, elem_first, nodes_append}
 use Rattle.pur_tree.proofs.NodesLemmas.{nodes_append-none}
