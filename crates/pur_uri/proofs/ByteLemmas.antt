@@ -6,7 +6,7 @@ use Rattle.std.specs.List.{list_all, prefix_len, suffix_len}
 use Rattle.std.proofs.lemmas.Bool.{and_parts, and_from, lt-ltb}
 use Rattle.pur_laws.proofs.Lists.{all-append, all-take, all-drop, all-filter}
 use Rattle.pur_laws.proofs.Sequences.{by_length}
-use Rattle.pur_uri.specs.Splitting.{is_kept, is_blank, without_leading_spaces, tidied}
+use Rattle.pur_uri.specs.Splitting.{is_kept, is_outer_space, without_leading_spaces, tidied}
 
 abbrev pub is_byte : ℕ → Bool
 is_byte b = nat_lt b 256
@@ -50,5 +50,5 @@ pub tidied_bytes : (raw : List ℕ) → are_bytes raw ≡ true → are_bytes (ti
 unfolding tidied
 tidied_bytes raw all =
     let front = without_leading_spaces (filter is_kept raw) in
-    all-take is_byte (length front - suffix_len is_blank front) front
-    (all-drop is_byte (prefix_len is_blank (filter is_kept raw)) (filter is_kept raw) (all-filter is_byte is_kept raw all))
+    all-take is_byte (length front - suffix_len is_outer_space front) front
+    (all-drop is_byte (prefix_len is_outer_space (filter is_kept raw)) (filter is_kept raw) (all-filter is_byte is_kept raw all))

@@ -10,9 +10,9 @@ use Rattle.pur_laws.proofs.Truth.{and_false}
 use Rattle.pur_names.specs.declared.schemes.SchemeName.{SchemeName}
 use Rattle.pur_names.specs.declared.schemes.SchemeName.TheVariants.{Http, Https, Ftp, Nntp, Mailto, News, Tel}
 use Rattle.pur_text.specs.Hosts.{is_host}
-use Rattle.pur_uri.specs.Splitting.{Parts, is_kept, is_blank, without_leading_spaces, without_outer_spaces, tidied, is_in_authority, begins_with, parts_of}
+use Rattle.pur_uri.specs.Splitting.{Parts, is_kept, is_outer_space, without_leading_spaces, without_outer_spaces, tidied, is_in_authority, begins_with, parts_of}
 use Rattle.pur_uri.specs.Authorities.{is_authority, host_of, behind_host, port_of}
-use Rattle.pur_uri.specs.Escapes.{is_unreserved, stays_in_path, stays_in_query, written, escaped_value, normalised}
+use Rattle.pur_uri.specs.Escapes.{is_unreserved, stays_in_path, stays_in_query, written, value_of_escape, normalised}
 use Rattle.pur_uri.specs.Private.Fronts.{escape_in_front}
 use Rattle.pur_uri.specs.Laws.{has_comment}
 use Rattle.pur_uri.specs.Uris.{PlainUri, scheme_in, has_reading, reading_of, uri_of, uri_text, scheme_text, host_text, port_text, query_text, fragment_text}
@@ -111,8 +111,8 @@ module _ (stays : ℕ → Bool) (star : stays 0x2A ≡ true) where
   free_normalised (b ∷ high ∷ low ∷ rest) free = ⊎_elim
       (λ (yes : is_escape b high low ≡ true).
       ap has_comment (cond-true _ _ _ yes)
-      ∙ free_run (written is_unreserved (escaped_value high low)) (normalised stays rest)
-      (no_slashes is_unreserved (λ c is. unlike is_unreserved 0x2F c refl is) (escaped_value high low))
+      ∙ free_run (written is_unreserved (value_of_escape high low)) (normalised stays rest)
+      (no_slashes is_unreserved (λ c is. unlike is_unreserved 0x2F c refl is) (value_of_escape high low))
       (free_normalised rest (free_drop 3 (b ∷ high ∷ low ∷ rest) free)))
       (λ (fails : is_escape b high low ≡ false).
       free_byte b (high ∷ low ∷ rest) (cond-false _ _ _ fails) (star_kept (high ∷ low ∷ rest)) free
@@ -200,7 +200,7 @@ unfolding tidied
 tidied_free raw all free =
     let front = without_leading_spaces raw in
     ap (λ t. has_comment (without_outer_spaces t)) (filter_same is_kept raw all)
-    ∙ free_take (length front - suffix_len is_blank front) front (free_drop (prefix_len is_blank raw) raw free)
+    ∙ free_take (length front - suffix_len is_outer_space front) front (free_drop (prefix_len is_outer_space raw) raw free)
 
 pub free_raw : HostsArePlain → (raw : List ℕ) (uri : PlainUri) → uri_of raw ≡ Some uri → list_all is_kept raw ≡ true → IsFree raw → IsFree (uri_text uri)
 free_raw plain raw uri e all free = free_tidied plain raw uri e (tidied_free raw all free)
