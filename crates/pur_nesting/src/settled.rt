@@ -11,36 +11,52 @@ use crate::roles::{Role, role_of};
 use crate::tables::is_blank;
 use pur_tree::{Elem, Node, is_table};
 
-/// How far into a table's word the children have come, and whether there was a body.
+// The stages of a table in order: a caption, columns, a head, a foot, bodies.
+const CAPTION: u8 = 0;
+
+const COLUMNS: u8 = 1;
+
+const HEAD: u8 = 2;
+
+const FOOT: u8 = 3;
+
+const BODIES: u8 = 4;
+// What has no place in such a table.
+const NONE: u8 = 9;
+
+/// How far a table in order has come: the least stage that may follow, and whether there was a body.
 #[derive(Clone, Copy)]
 pub struct Order {
     pub stage: u8,
     pub had: bool,
 }
 
+// The stage at which an element stands in a table whose columns are groups, or columns alone, and whose bodies are bodies, or
+// rows alone.
 fn stage(groups: bool, bodies: bool, role: Role) -> u8
     ensures { result ≡ stage groups bodies role }
 {
     match role {
-        Role::Title => 0,
-        Role::Column => if groups { 9 } else { 1 },
-        Role::ColumnGroup => if groups { 1 } else { 9 },
-        Role::Header => 2,
-        Role::Footer => 3,
-        Role::Body => if bodies { 4 } else { 9 },
-        Role::Row => if bodies { 9 } else { 4 },
-        Role::Stranger => 9,
+        Role::Title => CAPTION,
+        Role::Column => if groups { NONE } else { COLUMNS },
+        Role::ColumnGroup => if groups { COLUMNS } else { NONE },
+        Role::Header => HEAD,
+        Role::Footer => FOOT,
+        Role::Body => if bodies { BODIES } else { NONE },
+        Role::Row => if bodies { NONE } else { BODIES },
+        Role::Stranger => NONE,
     }
 }
 
+// The least stage that may follow an element.
 fn after(role: Role) -> u8
     ensures { result ≡ after role }
 {
     match role {
-        Role::Title | Role::Column | Role::ColumnGroup => 1,
-        Role::Header => 3,
-        Role::Footer | Role::Body | Role::Row => 4,
-        Role::Stranger => 9,
+        Role::Title | Role::Column | Role::ColumnGroup => COLUMNS,
+        Role::Header => FOOT,
+        Role::Footer | Role::Body | Role::Row => BODIES,
+        Role::Stranger => NONE,
     }
 }
 
@@ -52,10 +68,10 @@ fn order_after_element(groups: bool, bodies: bool, order: Order, role: Role) -> 
     if here < order.stage {
         return None;
     }
-    if 4 < here {
+    if BODIES < here {
         return None;
     }
-    if 4 <= here {
+    if BODIES <= here {
         return Some(Order {
             stage: after(role),
             had: true,
@@ -85,7 +101,7 @@ fn goes_on(groups: bool, bodies: bool, nodes: &[Node]) -> bool
     ensures { result ≡ goes_on groups bodies 0 false (nodes_of nodes.now) }
 {
     let mut order = Order {
-        stage: 0,
+        stage: CAPTION,
         had: false,
     };
     for node in nodes {
