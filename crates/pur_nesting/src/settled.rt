@@ -60,6 +60,7 @@ fn after(role: Role) -> u8
     }
 }
 
+// How far a table in order has come with an element more; nothing where it isn't in order.
 fn order_after_element(groups: bool, bodies: bool, order: Order, role: Role) -> Option<Order>
     ensures { (e : PlainElem) (kids : Nodes) (more : Nodes) → role_of e.name ≡ role
         → goes_on groups bodies order.stage order.had (elem_first e kids more) ≡ goes_from groups bodies result more }
@@ -83,6 +84,7 @@ fn order_after_element(groups: bool, bodies: bool, order: Order, role: Role) -> 
     })
 }
 
+// How far it has come with a node more.
 fn order_after(groups: bool, bodies: bool, order: Order, node: &Node) -> Option<Order>
     ensures { (more : Nodes) → goes_on groups bodies order.stage order.had (node_before node.now more) ≡ goes_from groups bodies result more }
 {
@@ -97,6 +99,7 @@ fn order_after(groups: bool, bodies: bool, order: Order, node: &Node) -> Option<
     }
 }
 
+// Whether a table's children are in order, with columns and bodies of these kinds.
 fn goes_on(groups: bool, bodies: bool, nodes: &[Node]) -> bool
     ensures { result ≡ goes_on groups bodies 0 false (nodes_of nodes.now) }
 {
@@ -113,6 +116,7 @@ fn goes_on(groups: bool, bodies: bool, nodes: &[Node]) -> bool
     order.had
 }
 
+// Whether a table's children are in order.
 fn is_in_order(nodes: &[Node]) -> bool
     ensures { result ≡ is_in_order (nodes_of nodes.now) }
 {
@@ -122,6 +126,7 @@ fn is_in_order(nodes: &[Node]) -> bool
         || goes_on(true, true, nodes)
 }
 
+// Whether an element needs no repair, nor any in it.
 #[cycle(settled)]
 fn is_settled_element(elem: &Elem) -> bool
     ensures { result ≡ is_settled_element elem.now.name (nodes_of elem.now.children.items) }
@@ -137,6 +142,7 @@ fn is_settled_element(elem: &Elem) -> bool
     is_settled(&elem.children)
 }
 
+// Whether a node is a text, where it needs no repair behind what stands before it; else nothing.
 #[cycle(settled)]
 fn after_node(after_text: bool, node: &Node) -> Option<bool>
     ensures { (more : Nodes) → is_settled_after after_text (node_before node.now more) ≡ is_settled_from result more }

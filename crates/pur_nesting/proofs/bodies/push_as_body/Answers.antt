@@ -1,6 +1,3 @@
-use Rattle.std.proofs.Common.{ap, ◌∙◌}
-use Rattle.pur_tree.specs.Image.{nodes_of}
-use Rattle.pur_tree.specs.Nodes.{nodes_append}
 use Rattle.pur_tree.proofs.NodeLemmas.{before_text, before_elem}
 use Rattle.pur_nesting.specs.Tables.{as_bodies}
 use Rattle.pur_nesting.proofs.bodies.push_as_body.Goals as goal
