@@ -10,7 +10,7 @@ ghost use Rattle.pur_tree.specs.Nodes.{PlainElem, plain_elem, Nodes, no_nodes, t
 ghost use Rattle.pur_nesting.specs.Private.Grouping.{pending};
 ghost use Rattle.pur_nesting.specs.Tables.{from_first_element, is_head_or_foot, as_body, as_bodies, runs_in_bodies, of_one_kind, has_child};
 
-use crate::pushing::{bare, push_all, push_elem, push_text, single};
+use crate::pushing::{bare, push_all, push_elem, push_text};
 use crate::roles::{Role, role_of};
 use pur_names::Element;
 use pur_tree::{Elem, Node};
@@ -59,12 +59,15 @@ fn is_head_or_foot(role: Role) -> bool
     matches!(role, Role::Header | Role::Footer)
 }
 
-/// An element as a body: a head or foot becomes a body that keeps its attributes, or its rows where no bodies are permitted.
-fn as_body(alloc: Global, tbody: bool, elem: Elem) -> Result<Vec<Node>, AllocError>
-    ensures { IfOk result (λ out. nodes_of out.items ≡ as_body tbody (plain_elem elem.name elem.attrs) (nodes_of elem.children.items)) }
+/// Puts an element behind nodes as a body: a head or foot becomes a body that keeps its attributes, or its rows stand for it
+/// where no bodies are permitted.
+fn push_body(alloc: Global, tbody: bool, out: &mut Vec<Node>, elem: Elem) -> Result<(), AllocError>
+    ensures { OnOk result ((more : Nodes) → nodes_append (nodes_of out.new.items) more
+        ≡ nodes_append (nodes_of out.old.items) (nodes_append (as_body tbody (plain_elem elem.name elem.attrs) (nodes_of elem.children.items)) more)) }
 {
     if !is_head_or_foot(role_of(elem.name)) {
-        return single(alloc, elem);
+        push_elem(out, elem)?;
+        return Ok(());
     }
     let Elem {
         attrs,
@@ -72,16 +75,20 @@ fn as_body(alloc: Global, tbody: bool, elem: Elem) -> Result<Vec<Node>, AllocErr
         ..
     } = elem;
     if tbody {
-        return single(
-            alloc,
+        let name = Element::Tbody;
+        push_elem(
+            out,
             Elem {
-                name: Element::Tbody,
+                name,
                 attrs,
                 children,
             },
-        );
+        )?;
+        return Ok(());
     }
-    from_first_element(alloc, children)
+    let rows = from_first_element(alloc, children)?;
+    push_all(out, rows)?;
+    Ok(())
 }
 
 fn push_as_body(
@@ -95,10 +102,7 @@ fn push_as_body(
 {
     match node {
         Node::Text(text) => push_text(out, text)?,
-        Node::Elem(elem) => {
-            let body = as_body(alloc, tbody, elem)?;
-            push_all(out, body)?;
-        }
+        Node::Elem(elem) => push_body(alloc, tbody, out, elem)?,
     }
     Ok(())
 }

@@ -68,6 +68,7 @@ fn after(met: Met, node: &Node) -> Met
     }
 }
 
+// What was met after an element more.
 fn after_element(met: Met, elem: &Elem) -> Met
     ensures { result ≡ next met (role_of elem.now.name) }
 {

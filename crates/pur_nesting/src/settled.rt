@@ -11,39 +11,56 @@ use crate::roles::{Role, role_of};
 use crate::tables::is_blank;
 use pur_tree::{Elem, Node, is_table};
 
-/// How far into a table's word the children have come, and whether there was a body.
+// The stages of a table in order: a caption, columns, a head, a foot, bodies.
+const CAPTION: u8 = 0;
+
+const COLUMNS: u8 = 1;
+
+const HEAD: u8 = 2;
+
+const FOOT: u8 = 3;
+
+const BODIES: u8 = 4;
+// What has no place in such a table.
+const NONE: u8 = 9;
+
+/// How far a table in order has come: the least stage that may follow, and whether there was a body.
 #[derive(Clone, Copy)]
 pub struct Order {
     pub stage: u8,
     pub had: bool,
 }
 
+// The stage at which an element stands in a table whose columns are groups, or columns alone, and whose bodies are bodies, or
+// rows alone.
 fn stage(groups: bool, bodies: bool, role: Role) -> u8
     ensures { result ≡ stage groups bodies role }
 {
     match role {
-        Role::Title => 0,
-        Role::Column => if groups { 9 } else { 1 },
-        Role::ColumnGroup => if groups { 1 } else { 9 },
-        Role::Header => 2,
-        Role::Footer => 3,
-        Role::Body => if bodies { 4 } else { 9 },
-        Role::Row => if bodies { 9 } else { 4 },
-        Role::Stranger => 9,
+        Role::Title => CAPTION,
+        Role::Column => if groups { NONE } else { COLUMNS },
+        Role::ColumnGroup => if groups { COLUMNS } else { NONE },
+        Role::Header => HEAD,
+        Role::Footer => FOOT,
+        Role::Body => if bodies { BODIES } else { NONE },
+        Role::Row => if bodies { NONE } else { BODIES },
+        Role::Stranger => NONE,
     }
 }
 
+// The least stage that may follow an element.
 fn after(role: Role) -> u8
     ensures { result ≡ after role }
 {
     match role {
-        Role::Title | Role::Column | Role::ColumnGroup => 1,
-        Role::Header => 3,
-        Role::Footer | Role::Body | Role::Row => 4,
-        Role::Stranger => 9,
+        Role::Title | Role::Column | Role::ColumnGroup => COLUMNS,
+        Role::Header => FOOT,
+        Role::Footer | Role::Body | Role::Row => BODIES,
+        Role::Stranger => NONE,
     }
 }
 
+// How far a table in order has come with an element more; nothing where it isn't in order.
 fn order_after_element(groups: bool, bodies: bool, order: Order, role: Role) -> Option<Order>
     ensures { (e : PlainElem) (kids : Nodes) (more : Nodes) → role_of e.name ≡ role
         → goes_on groups bodies order.stage order.had (elem_first e kids more) ≡ goes_from groups bodies result more }
@@ -52,10 +69,10 @@ fn order_after_element(groups: bool, bodies: bool, order: Order, role: Role) -> 
     if here < order.stage {
         return None;
     }
-    if 4 < here {
+    if BODIES < here {
         return None;
     }
-    if 4 <= here {
+    if BODIES <= here {
         return Some(Order {
             stage: after(role),
             had: true,
@@ -67,6 +84,7 @@ fn order_after_element(groups: bool, bodies: bool, order: Order, role: Role) -> 
     })
 }
 
+// How far it has come with a node more.
 fn order_after(groups: bool, bodies: bool, order: Order, node: &Node) -> Option<Order>
     ensures { (more : Nodes) → goes_on groups bodies order.stage order.had (node_before node.now more) ≡ goes_from groups bodies result more }
 {
@@ -81,11 +99,12 @@ fn order_after(groups: bool, bodies: bool, order: Order, node: &Node) -> Option<
     }
 }
 
+// Whether a table's children are in order, with columns and bodies of these kinds.
 fn goes_on(groups: bool, bodies: bool, nodes: &[Node]) -> bool
     ensures { result ≡ goes_on groups bodies 0 false (nodes_of nodes.now) }
 {
     let mut order = Order {
-        stage: 0,
+        stage: CAPTION,
         had: false,
     };
     for node in nodes {
@@ -97,6 +116,7 @@ fn goes_on(groups: bool, bodies: bool, nodes: &[Node]) -> bool
     order.had
 }
 
+// Whether a table's children are in order.
 fn is_in_order(nodes: &[Node]) -> bool
     ensures { result ≡ is_in_order (nodes_of nodes.now) }
 {
@@ -106,6 +126,7 @@ fn is_in_order(nodes: &[Node]) -> bool
         || goes_on(true, true, nodes)
 }
 
+// Whether an element needs no repair, nor any in it.
 #[cycle(settled)]
 fn is_settled_element(elem: &Elem) -> bool
     ensures { result ≡ is_settled_element elem.now.name (nodes_of elem.now.children.items) }
@@ -121,6 +142,7 @@ fn is_settled_element(elem: &Elem) -> bool
     is_settled(&elem.children)
 }
 
+// Whether a node is a text, where it needs no repair behind what stands before it; else nothing.
 #[cycle(settled)]
 fn after_node(after_text: bool, node: &Node) -> Option<bool>
     ensures { (more : Nodes) → is_settled_after after_text (node_before node.now more) ≡ is_settled_from result more }

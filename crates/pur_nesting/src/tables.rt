@@ -99,6 +99,7 @@ fn without_bodies(
     }
 }
 
+// A paragraph of what the first caption holds, given as a node.
 fn paragraph_of(alloc: Global, paragraph: bool, node: Node) -> Result<Vec<Node>, AllocError>
     ensures { IfOk result (λ out. (more : Nodes) → nodes_of out.items ≡ without_bodies paragraph (node_before node more)) }
 {
@@ -111,6 +112,7 @@ fn paragraph_of(alloc: Global, paragraph: bool, node: Node) -> Result<Vec<Node>,
     }
 }
 
+// A paragraph of what the first caption holds, where it is more than white space.
 fn paragraph_in_place_of(
     alloc: Global,
     paragraph: bool,
@@ -125,6 +127,7 @@ fn paragraph_in_place_of(
     Ok(Vec::new(alloc))
 }
 
+// Whether a paragraph may be made of these children.
 fn fills_paragraph(paragraph: bool, children: &[Node]) -> bool
     ensures { result ≡ (paragraph && not (are_blank (nodes_of children.now))) }
 {
