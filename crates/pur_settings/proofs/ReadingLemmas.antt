@@ -1,16 +1,13 @@
 -- What a text gives by the document that it is, and a list by its first item and the items after it.
-use Rattle.std.proofs.Common.{◌≡◌, ℕ, Bool, true, false, List, [], ◌++◌, Option, Some, None, Ok, Err, refl}
+use Rattle.std.proofs.Common.{◌≡◌, ℕ, Bool, true, false, List, [], ◌∷◌, ◌++◌, Option, Some, None, Ok, Err, refl}
 use Rattle.std.specs.Str.{IsUtf8, is_utf8}
 use Rattle.std.proofs.lemmas.Str.{IsUtf8-from_is_utf8, is_utf8-from_IsUtf8}
 use Rattle.std.specs.Option.{ok_or}
 use Rattle.toml.specs.Data.{Data, Items, item, Members, as_array}
 use Rattle.toml.specs.Parse.{parse_document}
-use Rattle.pur_names.specs.declared.elements.Element.{Element}
-use Rattle.pur_settings.proofs.SetLemmas.{one-more}
-use Rattle.pur_settings.specs.Private.Sets.{with_element}
+use Rattle.pur_settings.proofs.RankedSetLemmas.{one-more}
 use Rattle.pur_settings.specs.Reading.{reading_map, text_in, items_in, list_in}
 use Rattle.pur_settings.specs.Settings.{settings_in, settings_of}
-use Rattle.pur_settings.specs.Table.{in_order}
 use Rattle.pur_settings.specs.declared.faults.SettingsFault.TheVariants.{NotToml, WrongKind}
 
 -- a document gives what its members give
@@ -28,12 +25,13 @@ settings_of-none text none = go (is_utf8 text) refl where
   go false invalid = rw invalid refl
 
 -- before the first item of a list nothing is in the set
-pub list-begun : (named : List ℕ → Option Element) (value : Data) (items : Items) (set : List Element) → set ≡ [] → ok_or (as_array value) WrongKind ≡ Ok items
-    → reading_map (λ more. in_order (set ++ more)) (items_in named items) ≡ reading_map in_order (list_in named value)
-list-begun named value items set empty listed = rw (empty, listed) refl
+pub list-begun : {A : Type 0} (order : List A → List A) (named : List ℕ → Option A) (value : Data) (items : Items) (set : List A) → set ≡ []
+    → ok_or (as_array value) WrongKind ≡ Ok items
+    → reading_map (λ more. order (set ++ more)) (items_in named items) ≡ reading_map order (list_in named value)
+list-begun order named value items set empty listed = rw (empty, listed) refl
 
 -- past an item the set has what it names
-pub list-past : (named : List ℕ → Option Element) (first : Data) (more : Items) (e : Element) (set grown : List Element)
-    → text_in named first ≡ Ok e → grown ≡ with_element e set
-    → reading_map (λ values. in_order (grown ++ values)) (items_in named more) ≡ reading_map (λ values. in_order (set ++ values)) (items_in named (item first more))
-list-past named first more e set grown names grows = rw (names, grows) (one-more e set (items_in named more))
+pub list-past : {A : Type 0} (order : List A → List A) (named : List ℕ → Option A) (first : Data) (more : Items) (e : A) (set grown : List A)
+    → text_in named first ≡ Ok e → ((more : List A) → order (grown ++ more) ≡ order (set ++ e ∷ more))
+    → reading_map (λ values. order (grown ++ values)) (items_in named more) ≡ reading_map (λ values. order (set ++ values)) (items_in named (item first more))
+list-past order named first more e set grown names grows = rw names (one-more order e set grown (items_in named more) grows)

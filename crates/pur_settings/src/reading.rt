@@ -6,16 +6,19 @@ ghost use Rattle.std.specs.Ordering.{int_eq};
 ghost use Rattle.toml.specs.Data.{as_str, as_array};
 ghost use Rattle.toml.specs.View.{view, array_view, table_view};
 ghost use Rattle.pur_settings.specs.Private.Walk.{Ascends, with_member, with_members};
-ghost use Rattle.pur_settings.specs.Reading.{reading_map, text_in, list_in, number_in};
+ghost use Rattle.pur_settings.specs.Reading.{reading_map, truth_in, text_in, list_in, number_in};
 ghost use Rattle.pur_settings.specs.Rules.{default_rules, is_for_fragments};
 ghost use Rattle.pur_settings.specs.Settings.{doctype_in, settings_in};
-ghost use Rattle.pur_settings.specs.Table.{content_in_parent, doctype_named, element_of, in_order, table_for};
+ghost use Rattle.pur_settings.specs.Table.{attribute_of, attributes_in_order, content_in_parent, doctype_named, element_of, in_order, schemes_in_order, table_for};
+ghost use Rattle.pur_names.specs.Schemes.{scheme_named};
 
+use crate::attribute_table::AttributeTable;
 use crate::element_table::ElementTable;
 use crate::faults::SettingsFault;
+use crate::scheme_table::SchemeTable;
 use crate::site_settings::Settings;
 use pur_modules::{Content, Doctype, declares};
-use pur_names::Element;
+use pur_names::{Attr, Element, SchemeName};
 use toml::{Table, Value};
 
 // The settings that a table gives.
@@ -59,15 +62,40 @@ fn read_member(
     ensures { reading_map (λ _. settings.new) result ≡ with_member (table_for doctype) settings.old name.now (view value.now) }
 {
     match name {
+        "attributes" => settings.set_attributes(read_attributes(value)?),
         "doctype" => settings.set_doctype(read_doctype(value)?),
         "elements" => settings.set_elements(read_elements(doctype, value)?),
+        "ids" => settings.set_ids(read_truth(value)?),
         "parent" => settings.set_parent(read_parent(value)?),
+        "schemes" => settings.set_schemes(read_schemes(value)?),
         "version" => {
             read_version(value)?;
         }
         _ => return Err(SettingsFault::UnknownKey),
     }
     Ok(())
+}
+
+// The attributes that a list names.
+fn read_attributes(value: &Value) -> Result<AttributeTable, SettingsFault>
+    ensures { result ≡ reading_map attributes_in_order (list_in attribute_of (view value.now)) }
+{
+    let mut attributes = AttributeTable::new();
+    for item in read_items(value)? {
+        let attribute = read_attribute(item)?;
+        attributes.insert(attribute);
+    }
+    Ok(attributes)
+}
+
+// The attribute that a value names, which isn't `name`: the filter never writes that one.
+fn read_attribute(value: &Value) -> Result<Attr, SettingsFault>
+    ensures { result ≡ text_in attribute_of (view value.now) }
+{
+    match Attr::from_name(read_text(value)?) {
+        Some(attr) if attr != Attr::Name => Ok(attr),
+        _ => Err(SettingsFault::UnknownName),
+    }
 }
 
 // The doctype that a value names.
@@ -113,6 +141,32 @@ fn read_element(doctype: Doctype, value: &Value) -> Result<Element, SettingsFaul
         Some(element) if declares(doctype, element) => Ok(element),
         _ => Err(SettingsFault::UnknownName),
     }
+}
+
+// The schemes that a list names.
+fn read_schemes(value: &Value) -> Result<SchemeTable, SettingsFault>
+    ensures { result ≡ reading_map schemes_in_order (list_in scheme_named (view value.now)) }
+{
+    let mut schemes = SchemeTable::new();
+    for item in read_items(value)? {
+        let scheme = read_scheme(item)?;
+        schemes.insert(scheme);
+    }
+    Ok(schemes)
+}
+
+// The scheme that a value names.
+fn read_scheme(value: &Value) -> Result<SchemeName, SettingsFault>
+    ensures { result ≡ text_in scheme_named (view value.now) }
+{
+    SchemeName::from_name(read_text(value)?).ok_or(SettingsFault::UnknownName)
+}
+
+// The truth value that a value is.
+fn read_truth(value: &Value) -> Result<bool, SettingsFault>
+    ensures { result ≡ truth_in (view value.now) }
+{
+    value.as_bool().ok_or(SettingsFault::WrongKind)
 }
 
 // The version that a value is.

@@ -4,13 +4,14 @@ ghost use Rattle.std.specs.Prelude.{◌≡◌, ◌≢◌, IsTrue, ◌≤◌, ◌
 ghost use Rattle.std.specs.List.{list_any};
 ghost use Rattle.pur_names.specs.Attributes.{same_attr};
 ghost use Rattle.pur_names.specs.Properties.{same_prop};
-ghost use Rattle.pur_names.specs.Schemes.{same_scheme};
 ghost use Rattle.pur_settings.specs.Rules.{default_rules, is_for_fragments, permits_element, is_language, is_meant, permits_attribute, permits_property, permits_a_scheme};
 ghost use Rattle.pur_settings.specs.Settings.{settings_of, IsRefusedFor};
 
+use crate::attribute_table::AttributeTable;
 use crate::element_table::ElementTable;
 use crate::faults::SettingsFault;
 use crate::reading::read_table;
+use crate::scheme_table::SchemeTable;
 use pur_modules::{Content, Doctype, attributes, declares, required};
 use pur_names::{Attr, Element, SchemeName, StyleProp};
 use std::alloc::Global;
@@ -21,7 +22,7 @@ use std::marker::Model;
 /// The fragment holds what a `div` holds or what a `span` holds, and nothing else.
 #[derive(Drop)]
 pub struct Settings {
-    attributes: Option<Vec<Attr>>,
+    attributes: Option<AttributeTable>,
     auto_paragraph: bool,
     denied_hosts: Option<Vec<String>>,
     doctype: Doctype,
@@ -33,7 +34,7 @@ pub struct Settings {
     linkify: bool,
     parent: Content,
     properties: Option<Vec<StyleProp>>,
-    schemes: Option<Vec<SchemeName>>,
+    schemes: Option<SchemeTable>,
 }
 
 impl Model for Settings {
@@ -45,7 +46,7 @@ impl Model for Settings {
     ghost Value = { Rules };
 
     ghost view = { λ settings. record {
-      attributes = option_map (λ attrs. attrs.items) settings.attributes;
+      attributes = settings.attributes;
       auto_paragraph = settings.auto_paragraph;
       denied_hosts = texts_held settings.denied_hosts;
       doctype = settings.doctype;
@@ -57,7 +58,7 @@ impl Model for Settings {
       linkify = settings.linkify;
       parent = settings.parent;
       properties = option_map (λ properties. properties.items) settings.properties;
-      schemes = option_map (λ schemes. schemes.items) settings.schemes;
+      schemes = settings.schemes;
     } };
 
     ghost invariant = { λ settings. IsTrue (is_for_fragments settings.parent) };
@@ -87,8 +88,8 @@ impl Settings {
         }
     }
 
-    /// Reads a settings text of at most 65,536 bytes: a TOML document with the keys `doctype`, `elements` and `version`
-    /// at its top level.
+    /// Reads a settings text of at most 65,536 bytes: a TOML document with the keys `attributes`, `doctype`, `elements`,
+    /// `ids`, `parent`, `schemes` and `version` at its top level.
     ///
     /// Fails at the first offence in the order of the keys' bytes, and where memory is wanting.
     pub fn read(alloc: Global, text: &[u8]) -> Result<Settings, SettingsFault>
@@ -134,7 +135,7 @@ impl Settings {
     {
         let declared = has_attr(attributes(self.doctype, element), attr);
         let listed = match &self.attributes {
-            Some(attrs) => lists_attr(attrs.as_slice(), attr),
+            Some(attrs) => lists_attr(attrs, attr),
             None => true,
         };
         let wanted = listed || has_attr(required(element), attr);
@@ -156,7 +157,7 @@ impl Settings {
         ensures { result ≡ permits_a_scheme self.now scheme }
     {
         match &self.schemes {
-            Some(schemes) => has_scheme(schemes.as_slice(), scheme),
+            Some(schemes) => schemes.contains(scheme),
             None => true,
         }
     }
@@ -227,6 +228,13 @@ impl Settings {
         self.external
     }
 
+    // Sets the list of attributes.
+    pub(crate) fn set_attributes(&mut self, attributes: AttributeTable)
+        ensures { self.new ≡ record self.old { attributes = Some attributes } }
+    {
+        self.attributes = Some(attributes);
+    }
+
     // Sets the doctype.
     pub(crate) fn set_doctype(&mut self, doctype: Doctype)
         ensures { self.new ≡ record self.old { doctype = doctype } }
@@ -241,6 +249,13 @@ impl Settings {
         self.elements = Some(elements);
     }
 
+    // Sets whether elements may have an `id`.
+    pub(crate) fn set_ids(&mut self, ids: bool)
+        ensures { self.new ≡ record self.old { ids = ids } }
+    {
+        self.ids = ids;
+    }
+
     // Sets what the fragment may hold.
     pub(crate) fn set_parent(&mut self, parent: Content)
         requires { IsTrue (is_for_fragments parent) }
@@ -248,21 +263,23 @@ impl Settings {
     {
         self.parent = parent;
     }
+
+    // Sets the list of schemes.
+    pub(crate) fn set_schemes(&mut self, schemes: SchemeTable)
+        ensures { self.new ≡ record self.old { schemes = Some schemes } }
+    {
+        self.schemes = Some(schemes);
+    }
 }
 
-// Whether a list has an attribute that stands for this one.
-fn lists_attr(attrs: &[Attr], attr: Attr) -> bool
+// Whether a list has an attribute that stands for this one: it has this one, or this is `lang` or `xml:lang` and it has
+// one of the two.
+#[tactic(auto, using(crate::proofs::ListLemmas::meant_by))]
+fn lists_attr(attrs: &AttributeTable, attr: Attr) -> bool
     ensures { result ≡ list_any (is_meant attr) attrs.now }
 {
-    attrs.iter().any(|listed| stands_for(*listed, attr))
-}
-
-// Whether an attribute of a list stands for this one: it is this one, or the two are `lang` and `xml:lang`.
-#[tactic(auto, using(crate::proofs::ListLemmas::same_attrs))]
-fn stands_for(listed: Attr, attr: Attr) -> bool
-    ensures { result ≡ is_meant attr listed }
-{
-    listed == attr || is_lang(listed) && is_lang(attr)
+    attrs.contains(attr)
+        || is_lang(attr) && (attrs.contains(Attr::Lang) || attrs.contains(Attr::XmlLang))
 }
 
 // Whether the attribute is `lang` or `xml:lang`.
@@ -284,11 +301,4 @@ fn has_prop(properties: &[StyleProp], property: StyleProp) -> bool
     ensures { result ≡ list_any (same_prop property) properties.now }
 {
     properties.iter().any(|listed| *listed == property)
-}
-
-// Whether the scheme is in the list.
-fn has_scheme(schemes: &[SchemeName], scheme: SchemeName) -> bool
-    ensures { result ≡ list_any (same_scheme scheme) schemes.now }
-{
-    schemes.contains(&scheme)
 }

@@ -3,6 +3,7 @@
 use crate::{Settings, SettingsFault};
 use pur_modules::{Content, Doctype};
 use pur_names::{Attr, Element, SchemeName, StyleProp};
+use std::alloc::Global;
 use std::test::Fail;
 
 // What a text gives: its fault, or the doctype and whether `p`, `font` and `br` are permitted.
@@ -155,6 +156,130 @@ fn values_of_the_wrong_kind(rt: HostRuntime) {
             "{text}"
         );
     }
+}
+
+// The fault of a text, if it has one.
+fn fault_of(alloc: Global, text: &str) -> Option<SettingsFault> {
+    if text.len() > 65_536 {
+        return None;
+    }
+    Settings::read(alloc, text.as_bytes()).err()
+}
+
+// Lists and truth values of another kind.
+static OTHER_KINDS: [&str; 11] = [
+    "attributes = 'class'",
+    "attributes = true",
+    "attributes = [1]",
+    "attributes = ['class', ['lang'], 'onclick']",
+    "[attributes]",
+    "ids = 'true'",
+    "ids = 1",
+    "ids = [true]",
+    "schemes = 'http'",
+    "schemes = ['http', 80]",
+    "schemes.http = true",
+];
+
+#[test]
+fn values_of_another_kind(rt: HostRuntime) {
+    for text in OTHER_KINDS {
+        assert_eq!(rt;
+            fault_of(rt.alloc(), text),
+            Some(SettingsFault::WrongKind),
+            "{text}"
+        );
+    }
+}
+
+// Texts that aren't members.
+static OTHER_NAMES: [&str; 9] = [
+    "attributes = ['onclick']",
+    "attributes = ['name']",
+    "attributes = ['CLASS']",
+    "attributes = ['']",
+    "attributes = ['class', 'onclick', 1]",
+    "colour = 1\nattributes = ['onclick']",
+    "schemes = ['javascript']",
+    "schemes = ['HTTP']",
+    "schemes = ['http:']",
+];
+
+#[test]
+fn names_that_are_no_members(rt: HostRuntime) {
+    for text in OTHER_NAMES {
+        assert_eq!(rt;
+            fault_of(rt.alloc(), text),
+            Some(SettingsFault::UnknownName),
+            "{text}"
+        );
+    }
+}
+
+// Keys that no part reads so far.
+static OTHER_KEYS: [&str; 3] = [
+    "auto_paragraph = true",
+    "linkify = true",
+    "properties = ['color']",
+];
+
+#[test]
+fn keys_that_are_not_known(rt: HostRuntime) {
+    for text in OTHER_KEYS {
+        assert_eq!(rt;
+            fault_of(rt.alloc(), text),
+            Some(SettingsFault::UnknownKey),
+            "{text}"
+        );
+    }
+}
+
+#[test]
+fn listed_attributes_are_permitted(rt: HostRuntime) -> Result<(), Fail> {
+    let text = b"attributes = ['class', 'xml:lang', 'class', 'id']";
+    let settings = Settings::read(rt.alloc(), text)?;
+    assert!(rt; settings.permits_attr(Element::P, Attr::Class));
+    assert!(rt; settings.permits_attr(Element::P, Attr::Lang));
+    assert!(rt; settings.permits_attr(Element::P, Attr::XmlLang));
+    assert!(rt; !settings.permits_attr(Element::Br, Attr::XmlLang));
+    assert!(rt; !settings.permits_attr(Element::P, Attr::Title));
+    assert!(rt; !settings.permits_attr(Element::P, Attr::Id));
+    let with_ids = Settings::read(rt.alloc(), b"ids = true\nattributes = ['id', 'lang']")?;
+    assert!(rt; with_ids.ids() && with_ids.permits_attr(Element::P, Attr::Id));
+    assert!(rt; with_ids.permits_attr(Element::P, Attr::XmlLang));
+    assert!(rt; !with_ids.permits_attr(Element::P, Attr::Class));
+    Ok(())
+}
+
+#[test]
+fn required_attributes_are_permitted_unlisted(rt: HostRuntime) -> Result<(), Fail> {
+    let settings = Settings::read(rt.alloc(), b"attributes = []")?;
+    assert!(rt; settings.permits_attr(Element::Img, Attr::Src));
+    assert!(rt; settings.permits_attr(Element::Img, Attr::Alt));
+    assert!(rt; settings.permits_attr(Element::Bdo, Attr::Dir));
+    assert!(rt; !settings.permits_attr(Element::P, Attr::Dir));
+    assert!(rt; !settings.permits_attr(Element::Img, Attr::Width));
+    Ok(())
+}
+
+#[test]
+fn ids_are_on_or_off(rt: HostRuntime) -> Result<(), Fail> {
+    let on = Settings::read(rt.alloc(), b"ids = true")?;
+    assert!(rt; on.ids() && on.permits_attr(Element::Br, Attr::Id));
+    let off = Settings::read(rt.alloc(), b"ids = false")?;
+    assert!(rt; !off.ids() && !off.permits_attr(Element::Br, Attr::Id));
+    Ok(())
+}
+
+#[test]
+fn listed_schemes_are_permitted(rt: HostRuntime) -> Result<(), Fail> {
+    let settings = Settings::read(rt.alloc(), b"schemes = ['tel', 'http', 'tel']")?;
+    assert!(rt; settings.permits_scheme(SchemeName::Http));
+    assert!(rt; settings.permits_scheme(SchemeName::Tel));
+    assert!(rt; !settings.permits_scheme(SchemeName::Https));
+    let none = Settings::read(rt.alloc(), b"schemes = []")?;
+    assert!(rt; !none.permits_scheme(SchemeName::Http));
+    Ok(())
 }
 
 #[test]
