@@ -7,6 +7,7 @@
 mod attribute_table;
 mod element_table;
 mod faults;
+mod prefixes;
 mod reading;
 mod scheme_table;
 mod site_settings;

@@ -167,12 +167,26 @@ fn fault_of(alloc: Global, text: &str) -> Option<SettingsFault> {
 }
 
 // Lists and truth values of another kind.
-static OTHER_KINDS: [&str; 11] = [
+static OTHER_KINDS: [&str; 25] = [
     "attributes = 'class'",
     "attributes = true",
     "attributes = [1]",
     "attributes = ['class', ['lang'], 'onclick']",
     "[attributes]",
+    "denied_hosts = 'bad.com'",
+    "denied_hosts = ['bad.com', 1, 'Bad.com']",
+    "denied_hosts = [['bad.com']]",
+    "[denied_hosts]",
+    "external = 'false'",
+    "external = 0",
+    "external = 'false'\nhost = 'A.com'",
+    "host = 1",
+    "host = true",
+    "host = ['a.com']",
+    "[host]",
+    "id_prefix = 1",
+    "id_prefix = ['u-']",
+    "id_prefix = true",
     "ids = 'true'",
     "ids = 1",
     "ids = [true]",
@@ -193,13 +207,26 @@ fn values_of_another_kind(rt: HostRuntime) {
 }
 
 // Texts that aren't members.
-static OTHER_NAMES: [&str; 9] = [
+static OTHER_NAMES: [&str; 22] = [
     "attributes = ['onclick']",
     "attributes = ['name']",
     "attributes = ['CLASS']",
     "attributes = ['']",
     "attributes = ['class', 'onclick', 1]",
     "colour = 1\nattributes = ['onclick']",
+    "denied_hosts = ['Bad.com']",
+    "denied_hosts = ['bad.com', '']",
+    "denied_hosts = ['bad.com.']",
+    "denied_hosts = ['http://bad.com']",
+    "denied_hosts = ['bad.com', '*.bad.com', 1]",
+    "external = false\nhost = 'A.com'",
+    "host = ''",
+    "host = 'a.com:80'",
+    "host = '_a.com'",
+    "id_prefix = '1a'",
+    "id_prefix = '-a'",
+    "id_prefix = 'a b'",
+    "id_prefix = 'é'",
     "schemes = ['javascript']",
     "schemes = ['HTTP']",
     "schemes = ['http:']",
@@ -295,4 +322,104 @@ fn what_no_key_tells_is_the_default(rt: HostRuntime) {
     assert!(rt; !settings.linkify() && !settings.auto_paragraph());
     assert!(rt; settings.denied_hosts().is_empty());
     assert!(rt; settings.host().is_none() && settings.external());
+}
+
+#[test]
+fn prefixes_are_kept(rt: HostRuntime) -> Result<(), Fail> {
+    let settings = Settings::read(rt.alloc(), b"id_prefix = 'u-'")?;
+    assert_eq!(rt; settings.id_prefix(), "u-");
+    let all = Settings::read(rt.alloc(), b"id_prefix = 'Zz09-_.:'")?;
+    assert_eq!(rt; all.id_prefix(), "Zz09-_.:");
+    let none = Settings::read(rt.alloc(), b"id_prefix = ''")?;
+    assert_eq!(rt; none.id_prefix(), "");
+    Ok(())
+}
+
+// The fault of a text whose prefix has so many letters, if it has one.
+fn fault_of_prefix(alloc: Global, letters: usize) -> Result<Option<SettingsFault>, Fail> {
+    let mut text = String::from_str(alloc, "id_prefix = '")?;
+    for _ in 0..letters {
+        text.push('a')?;
+    }
+    text.push('\'')?;
+    Ok(fault_of(alloc, text.as_str()))
+}
+
+#[test]
+fn prefixes_have_at_most_64_bytes(rt: HostRuntime) -> Result<(), Fail> {
+    assert_eq!(rt; fault_of_prefix(rt.alloc(), 64)?, None);
+    assert_eq!(rt;
+        fault_of_prefix(rt.alloc(), 65)?,
+        Some(SettingsFault::UnknownName)
+    );
+    Ok(())
+}
+
+// The fault of a text whose own host has so many letters, if it has one.
+fn fault_of_host(alloc: Global, letters: usize) -> Result<Option<SettingsFault>, Fail> {
+    let mut text = String::from_str(alloc, "host = '")?;
+    for _ in 0..letters {
+        text.push('a')?;
+    }
+    text.push('\'')?;
+    Ok(fault_of(alloc, text.as_str()))
+}
+
+#[test]
+fn hosts_have_at_most_255_bytes(rt: HostRuntime) -> Result<(), Fail> {
+    assert_eq!(rt; fault_of_host(rt.alloc(), 255)?, None);
+    assert_eq!(rt;
+        fault_of_host(rt.alloc(), 256)?,
+        Some(SettingsFault::UnknownName)
+    );
+    Ok(())
+}
+
+#[test]
+fn denied_hosts_are_kept(rt: HostRuntime) -> Result<(), Fail> {
+    let settings = Settings::read(
+        rt.alloc(),
+        b"denied_hosts = ['bad.com', '[::1]', 'bad.com']",
+    )?;
+    let hosts = settings.denied_hosts();
+    assert_eq!(rt; hosts.len(), 3);
+    for (host, expected) in hosts.iter().zip(["bad.com", "[::1]", "bad.com"]) {
+        assert_eq!(rt; host.as_str(), expected);
+    }
+    let none = Settings::read(rt.alloc(), b"denied_hosts = []")?;
+    assert!(rt; none.denied_hosts().is_empty());
+    Ok(())
+}
+
+#[test]
+fn the_own_host_is_kept(rt: HostRuntime) -> Result<(), Fail> {
+    let own = Settings::read(rt.alloc(), b"host = 'a.com'\nexternal = false")?;
+    assert_eq!(rt; own.host(), Some("a.com"));
+    assert!(rt; !own.external());
+    let open = Settings::read(rt.alloc(), b"host = 'a.com'")?;
+    assert_eq!(rt; open.host(), Some("a.com"));
+    assert!(rt; open.external());
+    let plain = Settings::read(rt.alloc(), b"external = true")?;
+    assert!(rt; plain.host().is_none() && plain.external());
+    Ok(())
+}
+
+// Texts that are in conflict, or would be if they had no offence, with the fault of each.
+static CONFLICTS: [(&str, SettingsFault); 6] = [
+    ("external = false", SettingsFault::Conflict),
+    (
+        "denied_hosts = ['a.com']\nexternal = false\nids = true",
+        SettingsFault::Conflict,
+    ),
+    ("external = false\nversion = 2", SettingsFault::UnknownName),
+    ("external = false\nversion = '1'", SettingsFault::WrongKind),
+    ("external = false\nzone = 1", SettingsFault::UnknownKey),
+    ("external = false\ncolour = 1", SettingsFault::UnknownKey),
+];
+
+#[test]
+fn conflicts_come_after_all_keys(rt: HostRuntime) {
+    for (text, fault) in CONFLICTS {
+        assert_eq!(rt; fault_of(rt.alloc(), text), Some(fault), "{text}");
+    }
 }
