@@ -1,3 +1,4 @@
+pub mod RankedSetLemmas
 pub mod SetLemmas
 pub mod ListLemmas
 pub mod ReadingLemmas

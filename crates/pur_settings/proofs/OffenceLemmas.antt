@@ -1,9 +1,8 @@
 -- The offence that a text is refused for is the first one.
-use Rattle.std.proofs.Common.{◌≡◌, ◌≢◌, ℕ, suc, Bool, true, false, List, [], ◌∷◌, Option, Some, None, Ok, Err, Less, cond, not, refl, ap, sym, ◌∙◌, subst, arith}
-use Rattle.std.specs.Prelude.{IfErr}
+use Rattle.std.proofs.Common.{◌≡◌, ◌≢◌, ◌⊎◌, inl, inr, ℕ, suc, Bool, true, false, List, [], ◌∷◌, Option, Some, None, Ok, Err, Less, cond, not, refl, ap, sym, ◌∙◌, subst, arith}
+use Rattle.std.specs.Prelude.{IfErr, IsTrue}
 use Rattle.std.specs.List.{Contains, find}
 use Rattle.std.specs.Cmp.Lexicographic.{slice_cmp}
-use Rattle.std.specs.Option.{ok_or}
 use Rattle.std.specs.Ordering.{nat_cmp, is_lt}
 use Rattle.std.specs.Result.{result_err}
 use Rattle.std.proofs.lemmas.Bool.{false≢true}
@@ -11,11 +10,13 @@ use Rattle.std.proofs.lemmas.List.Sums.{AllPass-from_list_all}
 use Rattle.std.proofs.lemmas.Option.{none-some, same_Some}
 use Rattle.toml.specs.Data.{Members}
 use Rattle.pur_settings.specs.Offences.{Offence, offences, is_first, first_of, IsFirst}
-use Rattle.pur_settings.specs.Reading.{Reading, and_then}
-use Rattle.pur_settings.specs.Rules.{Rules}
-use Rattle.pur_settings.specs.Settings.{unless_offence, settings_in, document, settings_of, IsRefusedFor, table_in}
+use Rattle.pur_settings.specs.Reading.{Reading}
+use Rattle.pur_settings.specs.Rules.{Rules, is_in_conflict}
+use Rattle.pur_settings.specs.Private.Walk.{Ascends}
+use Rattle.pur_settings.specs.Settings.{unless_conflict, unless_offence, rules_in, settings_in, document, IsConflict, IsRefusedFor, table_in}
 use Rattle.pur_settings.specs.declared.faults.SettingsFault.{SettingsFault}
-use Rattle.pur_settings.specs.declared.faults.SettingsFault.TheVariants.{NotToml, Memory}
+use Rattle.pur_settings.specs.declared.faults.SettingsFault.TheVariants.{Conflict, NotToml, Memory}
+use Rattle.pur_settings.proofs.WalkLemmas.{none_at_all}
 
 -- what a search finds passes the test, and is in the list
 found : {X : Type 0} (p : X → Bool) (xs : List X) (y : X) → find p xs ≡ Some y → (p y ≡ true) × Contains xs y
@@ -34,21 +35,24 @@ first_is_first all o e =
     let h = found (is_first all) all o e in
     (o.0, h.1, λ k d within. before _ o.0 (AllPass-from_list_all (λ other. not (is_lt (slice_cmp nat_cmp other.0 o.0))) all h.0 k d within))
 
-refused : (all : List Offence) (rules : Rules) (fault : SettingsFault) → unless_offence (first_of all) rules ≡ Err fault → IsFirst all fault
-refused all rules fault h = go (first_of all) refl h where
-  go : (o : Option Offence) → first_of all ≡ o → unless_offence o rules ≡ Err fault → IsFirst all fault
-  go None e h = absurd (none-some fault (ap result_err h))
-  go (Some o) e h = subst (IsFirst all) (same_Some o.1 fault (ap result_err h)) (first_is_first all o e)
+conflict : (rules : Rules) (fault : SettingsFault) → unless_conflict rules ≡ Err fault → (fault ≡ Conflict) × IsTrue (is_in_conflict rules)
+conflict rules fault h = go (is_in_conflict rules) refl h where
+  go : (b : Bool) → is_in_conflict rules ≡ b → cond b (Err Conflict) (Ok rules) ≡ Err fault → (fault ≡ Conflict) × IsTrue (is_in_conflict rules)
+  go true e h = (sym (same_Some Conflict fault (ap result_err h)), e)
+  go false e h = absurd (none-some fault (ap result_err h))
 
-refused_text : (text : List ℕ) (fault : SettingsFault) → settings_of text ≡ Err fault → fault ≢ NotToml → IsRefusedFor text fault
-unfolding settings_of
-refused_text text fault h other = go (document text) refl h where
-  go : (d : Option Members) → document text ≡ d → and_then (ok_or d NotToml) settings_in ≡ Err fault → IsRefusedFor text fault
-  go None e h = absurd (other (sym (same_Some NotToml fault (ap result_err h))))
-  go (Some whole) e h = (whole, e, refused (offences (table_in whole) whole) _ fault h)
+refused : (whole : Members) → Ascends whole → (fault : SettingsFault) → settings_in whole ≡ Err fault
+    → IsFirst (offences (table_in whole) whole) fault ⊎ IsConflict whole fault
+refused whole ascend fault h = go (first_of (offences (table_in whole) whole)) refl h where
+  go : (o : Option Offence) → first_of (offences (table_in whole) whole) ≡ o → unless_offence o (rules_in (table_in whole) whole) ≡ Err fault
+      → IsFirst (offences (table_in whole) whole) fault ⊎ IsConflict whole fault
+  go None e h = let c = conflict (rules_in (table_in whole) whole) fault h in inr (c.0, none_at_all (table_in whole) whole ascend e, c.1)
+  go (Some o) e h =
+      inl (subst (IsFirst (offences (table_in whole) whole)) (same_Some o.1 fault (ap result_err h)) (first_is_first (offences (table_in whole) whole) o e))
 
--- the same of an answer
-pub first_if_refused : (text : List ℕ) (answer : Reading Rules) → answer ≡ settings_of text
+-- what a document is refused for, where an answer tells it
+pub first_if_refused : (text : List ℕ) (whole : Members) (answer : Reading Rules) → document text ≡ Some whole → Ascends whole
+    → IfErr answer (λ fault. fault ≢ Memory → settings_in whole ≡ Err fault)
     → IfErr answer (λ fault. fault ≢ Memory → fault ≢ NotToml → IsRefusedFor text fault)
-first_if_refused text (Ok rules) e = tt
-first_if_refused text (Err fault) e = λ memory other. refused_text text fault (sym e) other
+first_if_refused text whole (Ok rules) is ascend tells = tt
+first_if_refused text whole (Err fault) is ascend tells = λ memory other. (whole, is, refused whole ascend fault (tells memory))

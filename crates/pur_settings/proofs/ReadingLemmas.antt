@@ -1,17 +1,16 @@
 -- What a text gives by the document that it is, and a list by its first item and the items after it.
-use Rattle.std.proofs.Common.{◌≡◌, ℕ, Bool, true, false, List, [], ◌++◌, Option, Some, None, Ok, Err, refl}
+use Rattle.std.proofs.Common.{◌≡◌, ℕ, Bool, true, false, List, [], ◌∷◌, ◌++◌, Option, Some, None, Ok, Err, refl, ap, sym, ◌≢◌}
+use Rattle.std.specs.Prelude.{IfOk, IfErr}
 use Rattle.std.specs.Str.{IsUtf8, is_utf8}
 use Rattle.std.proofs.lemmas.Str.{IsUtf8-from_is_utf8, is_utf8-from_IsUtf8}
 use Rattle.std.specs.Option.{ok_or}
 use Rattle.toml.specs.Data.{Data, Items, item, Members, as_array}
 use Rattle.toml.specs.Parse.{parse_document}
-use Rattle.pur_names.specs.declared.elements.Element.{Element}
-use Rattle.pur_settings.proofs.SetLemmas.{one-more}
-use Rattle.pur_settings.specs.Private.Sets.{with_element}
-use Rattle.pur_settings.specs.Reading.{reading_map, text_in, items_in, list_in}
-use Rattle.pur_settings.specs.Settings.{settings_in, settings_of}
-use Rattle.pur_settings.specs.Table.{in_order}
-use Rattle.pur_settings.specs.declared.faults.SettingsFault.TheVariants.{NotToml, WrongKind}
+use Rattle.pur_settings.proofs.RankedSetLemmas.{one-more}
+use Rattle.pur_settings.specs.Reading.{Reading, reading_map, text_in, items_in, list_in}
+use Rattle.pur_settings.specs.Settings.{document, settings_in, settings_of}
+use Rattle.pur_settings.specs.Rules.{Rules}
+use Rattle.pur_settings.specs.declared.faults.SettingsFault.TheVariants.{Memory, NotToml, WrongKind}
 
 -- a document gives what its members give
 pub settings_of-document : (text : List ℕ) (all : Members) → IsUtf8 text → parse_document text ≡ Some all
@@ -27,13 +26,35 @@ settings_of-none text none = go (is_utf8 text) refl where
   go true valid = rw (valid, none (IsUtf8-from_is_utf8 text valid)) refl
   go false invalid = rw invalid refl
 
+-- the document that a text is
+pub document-is : (text : List ℕ) (all : Members) → IsUtf8 text → parse_document text ≡ Some all → document text ≡ Some all
+document-is text all utf8 parsed = rw (is_utf8-from_IsUtf8 text utf8, parsed) refl
+
+-- an answer that tells what is given, unless for want of memory, is what is given
+pub told : (answer gives : Reading Rules) → IfOk answer (λ rules. gives ≡ Ok rules) → IfErr answer (λ fault. fault ≢ Memory → gives ≡ Err fault)
+    → answer ≢ Err Memory → answer ≡ gives
+told (Ok rules) gives ok err other = sym ok
+told (Err fault) gives ok err other = sym (err (λ wanting. other (ap Err wanting)))
+
+-- what was read, taken as it is
+same_reading : {A : Type 0} (reading : Reading A) → reading_map (λ value. value) reading ≡ reading
+same_reading (Ok value) = refl
+same_reading (Err fault) = refl
+
+-- before the first item nothing is listed
+pub items-begun : {A : Type 0} (named : List ℕ → Option A) (value : Data) (items : Items) (listed : List A) → listed ≡ []
+    → ok_or (as_array value) WrongKind ≡ Ok items
+    → reading_map (λ more. listed ++ more) (items_in named items) ≡ list_in named value
+items-begun named value items listed empty array = rw (empty, array) (same_reading (items_in named items))
+
 -- before the first item of a list nothing is in the set
-pub list-begun : (named : List ℕ → Option Element) (value : Data) (items : Items) (set : List Element) → set ≡ [] → ok_or (as_array value) WrongKind ≡ Ok items
-    → reading_map (λ more. in_order (set ++ more)) (items_in named items) ≡ reading_map in_order (list_in named value)
-list-begun named value items set empty listed = rw (empty, listed) refl
+pub list-begun : {A : Type 0} (order : List A → List A) (named : List ℕ → Option A) (value : Data) (items : Items) (set : List A) → set ≡ []
+    → ok_or (as_array value) WrongKind ≡ Ok items
+    → reading_map (λ more. order (set ++ more)) (items_in named items) ≡ reading_map order (list_in named value)
+list-begun order named value items set empty listed = rw (empty, listed) refl
 
 -- past an item the set has what it names
-pub list-past : (named : List ℕ → Option Element) (first : Data) (more : Items) (e : Element) (set grown : List Element)
-    → text_in named first ≡ Ok e → grown ≡ with_element e set
-    → reading_map (λ values. in_order (grown ++ values)) (items_in named more) ≡ reading_map (λ values. in_order (set ++ values)) (items_in named (item first more))
-list-past named first more e set grown names grows = rw (names, grows) (one-more e set (items_in named more))
+pub list-past : {A : Type 0} (order : List A → List A) (named : List ℕ → Option A) (first : Data) (more : Items) (e : A) (set grown : List A)
+    → text_in named first ≡ Ok e → ((more : List A) → order (grown ++ more) ≡ order (set ++ e ∷ more))
+    → reading_map (λ values. order (grown ++ values)) (items_in named more) ≡ reading_map (λ values. order (set ++ values)) (items_in named (item first more))
+list-past order named first more e set grown names grows = rw names (one-more order e set grown (items_in named more) grows)

@@ -1,87 +1,78 @@
--- What a set of elements has, and a set with one more.
-use Rattle.std.proofs.Common.{◌≡◌, ℕ, ◌<◌, Bool, true, false, List, [], ◌∷◌, ◌++◌, ◌||◌, ◌&&◌, refl, ap, sym, ◌∙◌, nat_eq, length, slice_index_or, arith, Ok, Err}
+-- The sets of elements, attributes and schemes: what a table of truth values holds, a set with one more, a set in order.
+use Rattle.std.proofs.Common.{◌≡◌, ℕ, ◌<◌, Bool, true, List, [], ◌∷◌, ◌++◌, refl, length}
 use Rattle.std.specs.Prelude.{slice_set}
-use Rattle.std.specs.List.{list_any, filter}
-use Rattle.std.proofs.lemmas.Grind.{common_steps}
-use Rattle.std.proofs.lemmas.List.Elements.{filter_agree}
-use Rattle.std.proofs.lemmas.List.Folds.{list_any-append}
-use Rattle.std.proofs.lemmas.Map.Keys.{any_passes_from_place}
-use Rattle.std.proofs.lemmas.Map.Views.{any-filter_same}
-use Rattle.pur_names.specs.Elements.{all_elements, element_rank, same_element}
-use Rattle.pur_names.proofs.ElementLaws.{same_element-Decides, all_elements-rank}
+use Rattle.pur_names.specs.Attributes.{all_attrs, attr_rank}
+use Rattle.pur_names.specs.Elements.{all_elements, element_rank}
+use Rattle.pur_names.specs.Schemes.{all_schemes, scheme_rank}
+use Rattle.pur_names.proofs.AttrLaws.{all_attrs-rank}
+use Rattle.pur_names.proofs.ElementLaws.{all_elements-rank}
+use Rattle.pur_names.proofs.SchemeNameLaws.{all_schemes-rank}
+use Rattle.pur_names.specs.declared.attributes.Attr.{Attr}
 use Rattle.pur_names.specs.declared.elements.Element.{Element}
-use Rattle.pur_modules.specs.Groups.{is_among}
-use Rattle.pur_settings.specs.Reading.{Reading, reading_map}
-use Rattle.pur_settings.specs.Private.Sets.{with_element, is_held, elements_held}
-use Rattle.pur_settings.specs.Table.{in_order}
+use Rattle.pur_names.specs.declared.schemes.SchemeName.{SchemeName}
+use Rattle.pur_settings.proofs.RankedSetLemmas.{is_in, any-selected, held-with, with-more, twice}
+use Rattle.pur_settings.specs.Private.Sets.{with_element, with_attribute, with_scheme, is_held, elements_held, attributes_held, schemes_held}
+use Rattle.pur_settings.specs.Table.{attributes_in_order, in_order, schemes_in_order}
 
-same_by_test : (p : Element → Bool) (y k : Element) → same_element y k ≡ true → p k ≡ p y
-same_by_test p y k same = ap p (sym ((same_element-Decides y k).0 same))
-
-is_one_of_all : (y : Element) → list_any (same_element y) all_elements ≡ true
-is_one_of_all y =
-    any_passes_from_place (same_element y) all_elements (element_rank y) y (all_elements-rank y) ((same_element-Decides y y).1 refl)
-
-and_true : (b : Bool) → (b && true) ≡ b
-and_true true = refl
-and_true false = refl
-
-or_swap : (a b c : Bool) → ((a || b) || c) ≡ (b || (a || c))
-or_swap true true c = refl
-or_swap true false c = refl
-or_swap false b c = refl
-
--- an element is in the selection by a test where it passes the test
-pub any-selected : (p : Element → Bool) (y : Element) → is_among (filter p all_elements) y ≡ p y
-any-selected p y =
-    any-filter_same (same_element y) p (p y) (λ k same. same_by_test p y k same) all_elements ∙
-    (rw (is_one_of_all y) (and_true (p y)))
-
--- a table with one more place set
-set-test : (table : List Bool) (i j : ℕ) → j < length table → slice_index_or (slice_set table j true) i false ≡ (nat_eq i j || slice_index_or table i false)
-set-test table i j within = grind (arith, common_steps)
-
-pub held-with : (table : List Bool) (e : Element) → element_rank e < length table → elements_held (slice_set table (element_rank e) true) ≡ with_element e (elements_held table)
+-- elements
+pub elements_held-with : (table : List Bool) (e : Element) → element_rank e < length table → elements_held (slice_set table (element_rank e) true) ≡ with_element e (elements_held table)
 unfolding in_order elements_held
-held-with table e within =
-    filter_agree (is_held (slice_set table (element_rank e) true)) (is_among (e ∷ elements_held table))
-    (λ x. set-test table (element_rank x) (element_rank e) within ∙ ap (λ b. same_element x e || b) (sym (any-selected (is_held table) x)))
-    all_elements
+elements_held-with table e within = held-with element_rank all_elements all_elements-rank table e within
 
-pub held-test : (table : List Bool) (e : Element) → is_among (elements_held table) e ≡ is_held table e
+pub elements_held-test : (table : List Bool) (e : Element) → is_in element_rank (elements_held table) e ≡ is_held element_rank table e
 unfolding elements_held
-held-test table e = any-selected (is_held table) e
+elements_held-test table e = any-selected element_rank all_elements all_elements-rank (is_held element_rank table) e
 
-pub in_order-test : (xs : List Element) (e : Element) → is_among (in_order xs) e ≡ is_among xs e
+pub in_order-more : (e : Element) (set more : List Element) → in_order (with_element e set ++ more) ≡ in_order (set ++ e ∷ more)
 unfolding in_order
-in_order-test xs e = any-selected (is_among xs) e
+in_order-more e set more = with-more element_rank all_elements all_elements-rank e set more
 
-with-more-at : (e : Element) (set more : List Element) (x : Element) → is_among (with_element e set ++ more) x ≡ is_among (set ++ e ∷ more) x
-with-more-at e set more x =
-    list_any-append (same_element x) (with_element e set) more
-    ∙ ap (λ b. b || is_among more x) (in_order-test (e ∷ set) x)
-    ∙ or_swap (same_element x e) (is_among set x) (is_among more x)
-    ∙ sym (list_any-append (same_element x) set (e ∷ more))
-
--- a set with one more and others is the set with the one and the others
-pub with-more : (e : Element) (set more : List Element) → in_order (with_element e set ++ more) ≡ in_order (set ++ e ∷ more)
-unfolding in_order
-with-more e set more =
-    filter_agree (is_among (with_element e set ++ more)) (is_among (set ++ e ∷ more)) (λ x. with-more-at e set more x) all_elements
-
--- the same where what follows may be an offence
-pub one-more : (e : Element) (set : List Element) (rest : Reading (List Element))
-    → reading_map (λ more. in_order (with_element e set ++ more)) rest
-    ≡ reading_map (λ more. in_order (set ++ more)) (reading_map (λ values. e ∷ values) rest)
-one-more e set (Ok more) = ap Ok (with-more e set more)
-one-more e set (Err fault) = refl
-
--- a set in order stays so
 pub in_order-twice : (xs : List Element) → in_order (in_order xs) ≡ in_order xs
 unfolding in_order
-in_order-twice xs = filter_agree (is_among (in_order xs)) (is_among xs) (λ x. in_order-test xs x) all_elements
+in_order-twice xs = twice element_rank all_elements all_elements-rank xs
 
--- the empty set is in order
 pub in_order-none : in_order [] ≡ []
 unfolding in_order
 in_order-none = refl
+
+-- attributes
+pub attributes_held-with : (table : List Bool) (e : Attr) → attr_rank e < length table → attributes_held (slice_set table (attr_rank e) true) ≡ with_attribute e (attributes_held table)
+unfolding attributes_in_order attributes_held
+attributes_held-with table e within = held-with attr_rank all_attrs all_attrs-rank table e within
+
+pub attributes_held-test : (table : List Bool) (e : Attr) → is_in attr_rank (attributes_held table) e ≡ is_held attr_rank table e
+unfolding attributes_held
+attributes_held-test table e = any-selected attr_rank all_attrs all_attrs-rank (is_held attr_rank table) e
+
+pub attributes_in_order-more : (e : Attr) (set more : List Attr) → attributes_in_order (with_attribute e set ++ more) ≡ attributes_in_order (set ++ e ∷ more)
+unfolding attributes_in_order
+attributes_in_order-more e set more = with-more attr_rank all_attrs all_attrs-rank e set more
+
+pub attributes_in_order-twice : (xs : List Attr) → attributes_in_order (attributes_in_order xs) ≡ attributes_in_order xs
+unfolding attributes_in_order
+attributes_in_order-twice xs = twice attr_rank all_attrs all_attrs-rank xs
+
+pub attributes_in_order-none : attributes_in_order [] ≡ []
+unfolding attributes_in_order
+attributes_in_order-none = refl
+
+-- schemes
+pub schemes_held-with : (table : List Bool) (e : SchemeName) → scheme_rank e < length table → schemes_held (slice_set table (scheme_rank e) true) ≡ with_scheme e (schemes_held table)
+unfolding schemes_in_order schemes_held
+schemes_held-with table e within = held-with scheme_rank all_schemes all_schemes-rank table e within
+
+pub schemes_held-test : (table : List Bool) (e : SchemeName) → is_in scheme_rank (schemes_held table) e ≡ is_held scheme_rank table e
+unfolding schemes_held
+schemes_held-test table e = any-selected scheme_rank all_schemes all_schemes-rank (is_held scheme_rank table) e
+
+pub schemes_in_order-more : (e : SchemeName) (set more : List SchemeName) → schemes_in_order (with_scheme e set ++ more) ≡ schemes_in_order (set ++ e ∷ more)
+unfolding schemes_in_order
+schemes_in_order-more e set more = with-more scheme_rank all_schemes all_schemes-rank e set more
+
+pub schemes_in_order-twice : (xs : List SchemeName) → schemes_in_order (schemes_in_order xs) ≡ schemes_in_order xs
+unfolding schemes_in_order
+schemes_in_order-twice xs = twice scheme_rank all_schemes all_schemes-rank xs
+
+pub schemes_in_order-none : schemes_in_order [] ≡ []
+unfolding schemes_in_order
+schemes_in_order-none = refl

@@ -18,10 +18,10 @@ use Rattle.toml.specs.Data.{Data, Members, no_members, member, get_member}
 use Rattle.toml.specs.View.{members_view}
 use Rattle.toml.specs.declared.value.Value.{Value}
 use Rattle.pur_settings.specs.Offences.{row_of, meaning_of, offence_of, Offence, offences, first_of}
-use Rattle.pur_settings.specs.Private.Walk.{IsBelow, Ascends, with_members}
+use Rattle.pur_settings.specs.Private.Walk.{IsBelow, Ascends, with_members, with_all}
 use Rattle.pur_settings.specs.Reading.{Reading, and_then, reading_map}
 use Rattle.pur_settings.specs.Rules.{Rules, default_rules}
-use Rattle.pur_settings.specs.Settings.{with_row, table_in, unless_offence, settings_in}
+use Rattle.pur_settings.specs.Settings.{with_row, table_in, unless_conflict, unless_offence, settings_in}
 use Rattle.pur_settings.specs.Table.{Row}
 use Rattle.pur_settings.specs.declared.faults.SettingsFault.{SettingsFault}
 
@@ -147,16 +147,29 @@ none_before table o (member key value more) h = go (offence_of table key value) 
   go (Some f) behind = rw (nat_list_cmp_total.antisymm key o.0, h.0) behind
 
 -- where keys ascend, the first offence is that of the first member that has one
-foremost : (table : List Row) (part : Members) (rules : Rules) → Ascends part → unless_any (offences table part) rules ≡ unless_offence (first_of (offences table part)) rules
+foremost : (table : List Row) (part : Members) (rules : Rules) → Ascends part
+    → and_then (unless_any (offences table part) rules) unless_conflict ≡ unless_offence (first_of (offences table part)) rules
 foremost table no_members rules h = refl
 foremost table (member key value more) rules h = go (offence_of table key value) (foremost table more rules h.1) where
   IsForemost : List Offence → Type 0
-  IsForemost all = unless_any all rules ≡ unless_offence (first_of all) rules
+  IsForemost all = and_then (unless_any all rules) unless_conflict ≡ unless_offence (first_of all) rules
 
   go : (fault : Option SettingsFault) → IsForemost (offences table more) → IsForemost (cons_option (option_map (λ f. (key, f)) fault) (offences table more))
   go None behind = behind
   go (Some f) behind = rw (tied_itself nat_list_cmp_total key, none_before table (key, f) more h.0) refl
 
+-- where keys ascend, there is a first offence if there is any
+pub none_at_all : (table : List Row) (part : Members) → Ascends part → first_of (offences table part) ≡ None → offences table part ≡ []
+none_at_all table no_members h e = refl
+none_at_all table (member key value more) h e = go (offence_of table key value) (none_at_all table more h.1) e where
+  go : (fault : Option SettingsFault) → (first_of (offences table more) ≡ None → offences table more ≡ [])
+      → first_of (cons_option (option_map (λ f. (key, f)) fault) (offences table more)) ≡ None → cons_option (option_map (λ f. (key, f)) fault) (offences table more) ≡ []
+  go None behind e = behind e
+  go (Some f) behind e =
+      let top : first_of ((key, f) ∷ offences table more) ≡ Some (key, f)
+      = rw (tied_itself nat_list_cmp_total key, none_before table (key, f) more h.0) refl in
+      absurd (none-some (key, f) (sym e ∙ top))
+
 -- the walk over a whole document, from the defaults
-pub walk_is_look_up : (whole : Members) → Ascends whole → with_members (table_in whole) whole default_rules ≡ settings_in whole
-walk_is_look_up whole h = ends (table_in whole) refl whole h default_rules ∙ foremost (table_in whole) whole _ h
+pub walk_is_look_up : (whole : Members) → Ascends whole → with_all (table_in whole) whole ≡ settings_in whole
+walk_is_look_up whole h = ap (λ read. and_then read unless_conflict) (ends (table_in whole) refl whole h default_rules) ∙ foremost (table_in whole) whole _ h

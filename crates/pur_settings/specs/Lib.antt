@@ -1,4 +1,5 @@
 pub mod Rules
+pub mod Prefixes
 pub mod Reading
 pub mod Table
 pub mod Offences

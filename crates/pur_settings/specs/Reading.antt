@@ -1,7 +1,7 @@
 -- What a value of a settings text reads as: each kind of value with its members (TOML 1.1).
 use Rattle.std.specs.Prelude.{ℕ, ℤ, Bool, List, [], ◌∷◌, Option, Result, Ok, Err, if◌then◌else◌}
 use Rattle.std.specs.Option.{ok_or}
-use Rattle.toml.specs.Data.{Data, Items, no_items, item, as_str, as_integer, as_array}
+use Rattle.toml.specs.Data.{Data, Items, no_items, item, as_str, as_bool, as_integer, as_array}
 use Rattle.pur_settings.specs.declared.faults.SettingsFault.{SettingsFault}
 use Rattle.pur_settings.specs.declared.faults.SettingsFault.TheVariants.{WrongKind, UnknownName}
 
@@ -18,6 +18,10 @@ and_then (Err fault) next = Err fault
 abbrev pub reading_map : {A B : Type 0} → (A → B) → Reading A → Reading B
 reading_map change (Ok value) = Ok (change value)
 reading_map change (Err fault) = Err fault
+
+-- a truth value
+abbrev pub truth_in : Data → Reading Bool
+truth_in value = ok_or (as_bool value) WrongKind
 
 -- a text out of a set: what it names there
 abbrev pub text_in : {A : Type 0} → (List ℕ → Option A) → Data → Reading A

@@ -1,6 +1,7 @@
 -- What settings say: their record, and the answer to each question that a pass asks of them.
-use Rattle.std.specs.Prelude.{ℕ, Bool, true, false, List, [], Option, Some, None, not, ◌&&◌, ◌||◌}
+use Rattle.std.specs.Prelude.{ℕ, Bool, true, false, List, [], Option, Some, None, is_some, not, ◌&&◌, ◌||◌}
 use Rattle.std.specs.List.{list_any}
+use Rattle.pur_text.specs.Hosts.{is_host}
 use Rattle.pur_names.specs.Attributes.{same_attr}
 use Rattle.pur_names.specs.Elements.{element_named, same_element}
 use Rattle.pur_names.specs.Properties.{same_prop}
@@ -57,6 +58,15 @@ abbrev pub is_for_fragments : Content → Bool
 is_for_fragments Flow = true
 is_for_fragments Inline = true
 is_for_fragments content = false
+
+-- whether a text, if there is one, is a canonical host
+abbrev pub is_host_or_none : Option (List ℕ) → Bool
+is_host_or_none None = true
+is_host_or_none (Some host) = is_host host
+
+-- whether no host but the site's own may be reached, and that isn't told
+abbrev pub is_in_conflict : Rules → Bool
+is_in_conflict rules = not (rules.external || is_some rules.host)
 
 -- whether a list has something that passes a test; where there is no list, all is permitted
 abbrev pub is_listed : {A : Type 0} → Option (List A) → (A → Bool) → Bool

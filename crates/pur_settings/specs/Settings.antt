@@ -1,5 +1,5 @@
--- The settings that a TOML document gives, each found by its key, or its first offence.
-use Rattle.std.specs.Prelude.{◌≡◌, ℕ, List, Option, Some, None, Ok, Err, if◌then◌else◌, codes}
+-- The settings that a TOML document gives, each found by its key, or its first offence, or the conflict that they are in.
+use Rattle.std.specs.Prelude.{◌≡◌, ◌⊎◌, IsTrue, ℕ, List, [], Option, Some, None, Ok, Err, if◌then◌else◌, codes}
 use Rattle.std.specs.List.{fold}
 use Rattle.std.specs.Option.{ok_or, option_and_then, option_map_or}
 use Rattle.std.specs.Result.{result_ok, result_unwrap_or}
@@ -9,10 +9,10 @@ use Rattle.toml.specs.Parse.{parse_document}
 use Rattle.pur_modules.specs.declared.kinds.Doctype.{Doctype}
 use Rattle.pur_settings.specs.Offences.{Offence, offences, first_of, IsFirst}
 use Rattle.pur_settings.specs.Reading.{Reading, and_then, text_in}
-use Rattle.pur_settings.specs.Rules.{Rules, default_rules}
+use Rattle.pur_settings.specs.Rules.{Rules, default_rules, is_in_conflict}
 use Rattle.pur_settings.specs.Table.{Row, doctype_named, table_for}
 use Rattle.pur_settings.specs.declared.faults.SettingsFault.{SettingsFault}
-use Rattle.pur_settings.specs.declared.faults.SettingsFault.TheVariants.{NotToml}
+use Rattle.pur_settings.specs.declared.faults.SettingsFault.TheVariants.{Conflict, NotToml}
 
 -- what a document says by a row: nothing where it lacks the key, or its value has an offence
 abbrev pub said_by : Row → Members → Option (Rules → Rules)
@@ -38,12 +38,16 @@ doctype_in whole = doctype_by (get_member (codes "doctype") whole)
 abbrev pub table_in : Members → List Row
 table_in whole = table_for (doctype_in whole)
 
--- the settings, unless there is an offence
+-- the settings, unless they are in conflict
+abbrev pub unless_conflict : Rules → Reading Rules
+unless_conflict rules = if is_in_conflict rules then Err Conflict else Ok rules
+
+-- the settings, unless there is an offence or, after all keys, a conflict
 abbrev pub unless_offence : Option Offence → Rules → Reading Rules
-unless_offence None rules = Ok rules
+unless_offence None rules = unless_conflict rules
 unless_offence (Some offence) rules = Err offence.1
 
--- the settings that a document gives, or its first offence
+-- the settings that a document gives, or its first offence, or the conflict
 abbrev pub settings_in : Members → Reading Rules
 settings_in whole = unless_offence (first_of (offences (table_in whole) whole)) (rules_in (table_in whole) whole)
 
@@ -51,10 +55,17 @@ settings_in whole = unless_offence (first_of (offences (table_in whole) whole)) 
 abbrev pub document : List ℕ → Option Members
 document text = if is_utf8 text then parse_document text else None
 
--- the settings that a text gives, or its first offence
+-- the settings that a text gives, or its first offence, or the conflict
 unfoldable pub settings_of : List ℕ → Reading Rules
 settings_of text = and_then (ok_or (document text) NotToml) settings_in
 
--- the text is a document and the fault that of its first offence: a member has it, and no member whose key is less has one
+-- no member of a document has an offence, but the settings that it gives are in conflict, and the fault says so
+abbrev pub IsConflict : Members → SettingsFault → Type 0
+IsConflict whole fault =
+    (fault ≡ Conflict) × (offences (table_in whole) whole ≡ []) × IsTrue (is_in_conflict (rules_in (table_in whole) whole))
+
+-- the text is a document and the fault that of its first offence: a member has it, and no member whose key is less has
+-- one; or it is the conflict
 abbrev pub IsRefusedFor : List ℕ → SettingsFault → Type 0
-IsRefusedFor text fault = (whole : Members) × (document text ≡ Some whole) × IsFirst (offences (table_in whole) whole) fault
+IsRefusedFor text fault =
+    (whole : Members) × (document text ≡ Some whole) × (IsFirst (offences (table_in whole) whole) fault ⊎ IsConflict whole fault)

@@ -4,9 +4,12 @@
 
 #![tactic(auto)]
 
+mod attribute_table;
 mod element_table;
 mod faults;
+mod prefixes;
 mod reading;
+mod scheme_table;
 mod site_settings;
 #[cfg(test)]
 mod tests;

@@ -1,42 +1,75 @@
 //! Reading settings out of a TOML table, key by key.
 
-ghost use Rattle.std.specs.Prelude.{◌≡◌, pos, IfOk, IsTrue};
+ghost use Rattle.std.specs.Prelude.{◌≡◌, ◌≢◌, pos, Ok, Err, IfOk, IfErr, OnOk, IsTrue, map, string_bytes};
+ghost use Rattle.std.specs.List.{list_all};
 ghost use Rattle.std.specs.Option.{ok_or};
 ghost use Rattle.std.specs.Ordering.{int_eq};
 ghost use Rattle.toml.specs.Data.{as_str, as_array};
 ghost use Rattle.toml.specs.View.{view, array_view, table_view};
-ghost use Rattle.pur_settings.specs.Private.Walk.{Ascends, with_member, with_members};
-ghost use Rattle.pur_settings.specs.Reading.{reading_map, text_in, list_in, number_in};
-ghost use Rattle.pur_settings.specs.Rules.{default_rules, is_for_fragments};
-ghost use Rattle.pur_settings.specs.Settings.{doctype_in, settings_in};
-ghost use Rattle.pur_settings.specs.Table.{content_in_parent, doctype_named, element_of, in_order, table_for};
+ghost use Rattle.pur_text.specs.Hosts.{is_host};
+ghost use Rattle.pur_settings.specs.Prefixes.{is_id_prefix};
+ghost use Rattle.pur_settings.specs.Private.Walk.{Ascends, with_all, with_member};
+ghost use Rattle.pur_settings.specs.Reading.{reading_map, truth_in, text_in, list_in, number_in};
+ghost use Rattle.pur_settings.specs.Rules.{is_for_fragments};
+ghost use Rattle.pur_settings.specs.Settings.{doctype_in, settings_in, unless_conflict};
+ghost use Rattle.pur_settings.specs.Table.{attribute_of, attributes_in_order, content_in_parent, doctype_named, element_of, host_named, in_order, prefix_named, schemes_in_order, table_for};
+ghost use Rattle.pur_names.specs.Schemes.{scheme_named};
 
+use crate::attribute_table::AttributeTable;
 use crate::element_table::ElementTable;
 use crate::faults::SettingsFault;
+use crate::prefixes::is_id_prefix;
+use crate::scheme_table::SchemeTable;
 use crate::site_settings::Settings;
 use pur_modules::{Content, Doctype, declares};
-use pur_names::Element;
+use pur_names::{Attr, Element, SchemeName};
+use pur_text::is_host;
+use std::alloc::Global;
 use toml::{Table, Value};
 
 // The settings that a table gives.
-pub(crate) fn read_table(table: &Table) -> Result<Settings, SettingsFault>
-    ensures { result ≡ settings_in (table_view table.now) }
+pub(crate) fn read_table(alloc: Global, table: &Table) -> Result<Settings, SettingsFault>
+    ensures ok { IfOk result (λ settings. settings_in (table_view table.now) ≡ Ok settings) }
+    ensures err { IfErr result (λ fault. fault ≢ SettingsFault.Memory → settings_in (table_view table.now) ≡ Err fault) }
+    ensures ordered { Ascends (table_view table.now) }
 {
     let doctype = find_doctype(table);
-    read_members(table, doctype)
+    read_members(alloc, table, doctype)
 }
 
 // The settings with the value of each member, one after another in the order of their keys' bytes, which is the table's
-// own. What the value of one key depends on beside itself was looked up before.
-fn read_members(table: &Table, doctype: Doctype) -> Result<Settings, SettingsFault>
-    ensures value { result ≡ with_members (table_for doctype) (table_view table.now) default_rules }
+// own. What the value of one key depends on beside itself was looked up before. That other hosts may not be reached is
+// kept aside until the site's own is known.
+fn read_members(alloc: Global, table: &Table, doctype: Doctype) -> Result<Settings, SettingsFault>
+    ensures ok { IfOk result (λ settings. with_all (table_for doctype) (table_view table.now) ≡ Ok settings) }
+    ensures err { IfErr result (λ fault. fault ≢ SettingsFault.Memory → with_all (table_for doctype) (table_view table.now) ≡ Err fault) }
     ensures ordered { Ascends (table_view table.now) }
 {
     let mut settings = Settings::defaults();
+    let mut external = true;
     for (name, value) in table.iter() {
-        read_member(&mut settings, doctype, name.as_str(), value)?;
+        read_member(
+            alloc,
+            &mut settings,
+            &mut external,
+            doctype,
+            name.as_str(),
+            value,
+        )?;
     }
+    settle(&mut settings, external)?;
     Ok(settings)
+}
+
+// Puts in whether other hosts may be reached; where they may not, the site's own must be there.
+fn settle(settings: &mut Settings, external: bool) -> Result<(), SettingsFault>
+    ensures { reading_map (λ _. settings.new) result ≡ unless_conflict (record settings.old { external = external }) }
+{
+    if !external && settings.host().is_none() {
+        return Err(SettingsFault::Conflict);
+    }
+    settings.set_external(external);
+    Ok(())
 }
 
 // The doctype that a table names; the default where it names none.
@@ -49,25 +82,59 @@ fn find_doctype(table: &Table) -> Doctype
     }
 }
 
-// Puts the value of the key of this name into the settings.
+// Puts the value of the key of this name into the settings, or whether other hosts may be reached beside them.
 fn read_member(
+    alloc: Global,
     settings: &mut Settings,
+    external: &mut bool,
     doctype: Doctype,
     name: &str,
     value: &Value,
 ) -> Result<(), SettingsFault>
-    ensures { reading_map (λ _. settings.new) result ≡ with_member (table_for doctype) settings.old name.now (view value.now) }
+    ensures ok { OnOk result (with_member (table_for doctype) (record settings.old { external = external.old }) name.now (view value.now)
+        ≡ Ok (record settings.new { external = external.new })) }
+    ensures err { IfErr result (λ fault. fault ≢ SettingsFault.Memory →
+        with_member (table_for doctype) (record settings.old { external = external.old }) name.now (view value.now) ≡ Err fault) }
 {
     match name {
+        "attributes" => settings.set_attributes(read_attributes(value)?),
+        "denied_hosts" => settings.set_denied_hosts(read_hosts(alloc, value)?),
         "doctype" => settings.set_doctype(read_doctype(value)?),
         "elements" => settings.set_elements(read_elements(doctype, value)?),
+        "external" => *external = read_truth(value)?,
+        "host" => settings.set_host(read_host(alloc, value)?),
+        "id_prefix" => settings.set_id_prefix(read_prefix(alloc, value)?),
+        "ids" => settings.set_ids(read_truth(value)?),
         "parent" => settings.set_parent(read_parent(value)?),
+        "schemes" => settings.set_schemes(read_schemes(value)?),
         "version" => {
             read_version(value)?;
         }
         _ => return Err(SettingsFault::UnknownKey),
     }
     Ok(())
+}
+
+// The attributes that a list names.
+fn read_attributes(value: &Value) -> Result<AttributeTable, SettingsFault>
+    ensures { result ≡ reading_map attributes_in_order (list_in attribute_of (view value.now)) }
+{
+    let mut attributes = AttributeTable::new();
+    for item in read_items(value)? {
+        let attribute = read_attribute(item)?;
+        attributes.insert(attribute);
+    }
+    Ok(attributes)
+}
+
+// The attribute that a value names, which isn't `name`: the filter never writes that one.
+fn read_attribute(value: &Value) -> Result<Attr, SettingsFault>
+    ensures { result ≡ text_in attribute_of (view value.now) }
+{
+    match Attr::from_name(read_text(value)?) {
+        Some(attr) if attr != Attr::Name => Ok(attr),
+        _ => Err(SettingsFault::UnknownName),
+    }
 }
 
 // The doctype that a value names.
@@ -113,6 +180,87 @@ fn read_element(doctype: Doctype, value: &Value) -> Result<Element, SettingsFaul
         Some(element) if declares(doctype, element) => Ok(element),
         _ => Err(SettingsFault::UnknownName),
     }
+}
+
+// The hosts that a list names.
+fn read_hosts(alloc: Global, value: &Value) -> Result<Vec<String>, SettingsFault>
+    ensures ok { IfOk result (λ hosts. list_in host_named (view value.now) ≡ Ok (map string_bytes hosts.items)) }
+    ensures form { IfOk result (λ hosts. IsTrue (list_all is_host (map string_bytes hosts.items))) }
+    ensures err { IfErr result (λ fault. fault ≢ SettingsFault.Memory → list_in host_named (view value.now) ≡ Err fault) }
+{
+    let mut hosts = Vec::new(alloc);
+    for item in read_items(value)? {
+        let host = read_host(alloc, item)?;
+        if hosts.push(host).is_err() {
+            return Err(SettingsFault::Memory);
+        }
+    }
+    Ok(hosts)
+}
+
+// The host that a value names.
+fn read_host(alloc: Global, value: &Value) -> Result<String, SettingsFault>
+    ensures ok { IfOk result (λ host. text_in host_named (view value.now) ≡ Ok (string_bytes host)) }
+    ensures form { IfOk result (λ host. IsTrue (is_host (string_bytes host))) }
+    ensures err { IfErr result (λ fault. fault ≢ SettingsFault.Memory → text_in host_named (view value.now) ≡ Err fault) }
+{
+    let text = read_text(value)?;
+    if is_host(text) {
+        copy_of(alloc, text)
+    } else {
+        Err(SettingsFault::UnknownName)
+    }
+}
+
+// The text that a value is, where that may stand in front of ids.
+fn read_prefix(alloc: Global, value: &Value) -> Result<String, SettingsFault>
+    ensures ok { IfOk result (λ prefix. text_in prefix_named (view value.now) ≡ Ok (string_bytes prefix)) }
+    ensures form { IfOk result (λ prefix. IsTrue (is_id_prefix (string_bytes prefix))) }
+    ensures err { IfErr result (λ fault. fault ≢ SettingsFault.Memory → text_in prefix_named (view value.now) ≡ Err fault) }
+{
+    let text = read_text(value)?;
+    if is_id_prefix(text) {
+        copy_of(alloc, text)
+    } else {
+        Err(SettingsFault::UnknownName)
+    }
+}
+
+// A copy of a text.
+fn copy_of(alloc: Global, text: &str) -> Result<String, SettingsFault>
+    ensures ok { IfOk result (λ copy. string_bytes copy ≡ text.now) }
+    ensures err { IfErr result (λ fault. fault ≡ SettingsFault.Memory) }
+{
+    match String::from_str(alloc, text) {
+        Ok(copy) => Ok(copy),
+        Err(_) => Err(SettingsFault::Memory),
+    }
+}
+
+// The schemes that a list names.
+fn read_schemes(value: &Value) -> Result<SchemeTable, SettingsFault>
+    ensures { result ≡ reading_map schemes_in_order (list_in scheme_named (view value.now)) }
+{
+    let mut schemes = SchemeTable::new();
+    for item in read_items(value)? {
+        let scheme = read_scheme(item)?;
+        schemes.insert(scheme);
+    }
+    Ok(schemes)
+}
+
+// The scheme that a value names.
+fn read_scheme(value: &Value) -> Result<SchemeName, SettingsFault>
+    ensures { result ≡ text_in scheme_named (view value.now) }
+{
+    SchemeName::from_name(read_text(value)?).ok_or(SettingsFault::UnknownName)
+}
+
+// The truth value that a value is.
+fn read_truth(value: &Value) -> Result<bool, SettingsFault>
+    ensures { result ≡ truth_in (view value.now) }
+{
+    value.as_bool().ok_or(SettingsFault::WrongKind)
 }
 
 // The version that a value is.

@@ -1,16 +1,19 @@
 //! The settings of a site.
 
-ghost use Rattle.std.specs.Prelude.{◌≡◌, ◌≢◌, IsTrue, ◌≤◌, ◌^◌, length, map, Some, Err, IfErr, option_copied, string_bytes};
-ghost use Rattle.std.specs.List.{list_any};
+ghost use Rattle.std.specs.Prelude.{◌≡◌, ◌≢◌, IsTrue, ◌≤◌, ◌^◌, length, map, Some, Err, IfErr, is_some, not, ◌||◌, option_copied, string_bytes};
+ghost use Rattle.std.specs.List.{list_all, list_any};
+ghost use Rattle.pur_text.specs.Hosts.{is_host};
 ghost use Rattle.pur_names.specs.Attributes.{same_attr};
 ghost use Rattle.pur_names.specs.Properties.{same_prop};
-ghost use Rattle.pur_names.specs.Schemes.{same_scheme};
-ghost use Rattle.pur_settings.specs.Rules.{default_rules, is_for_fragments, permits_element, is_language, is_meant, permits_attribute, permits_property, permits_a_scheme};
+ghost use Rattle.pur_settings.specs.Prefixes.{is_id_prefix};
+ghost use Rattle.pur_settings.specs.Rules.{default_rules, is_for_fragments, is_host_or_none, is_in_conflict, permits_element, is_language, is_meant, permits_attribute, permits_property, permits_a_scheme};
 ghost use Rattle.pur_settings.specs.Settings.{settings_of, IsRefusedFor};
 
+use crate::attribute_table::AttributeTable;
 use crate::element_table::ElementTable;
 use crate::faults::SettingsFault;
 use crate::reading::read_table;
+use crate::scheme_table::SchemeTable;
 use pur_modules::{Content, Doctype, attributes, declares, required};
 use pur_names::{Attr, Element, SchemeName, StyleProp};
 use std::alloc::Global;
@@ -18,10 +21,12 @@ use std::marker::Model;
 
 /// What a site configures. Contracts see the record of what the settings say.
 ///
-/// The fragment holds what a `div` holds or what a `span` holds, and nothing else.
+/// The fragment holds what a `div` holds or what a `span` holds, and nothing else. The hosts are canonical hosts, and the
+/// site's own is there where no other may be reached. What stands in front of ids is nothing, or an id by itself, of at
+/// most 64 bytes.
 #[derive(Drop)]
 pub struct Settings {
-    attributes: Option<Vec<Attr>>,
+    attributes: Option<AttributeTable>,
     auto_paragraph: bool,
     denied_hosts: Option<Vec<String>>,
     doctype: Doctype,
@@ -33,19 +38,22 @@ pub struct Settings {
     linkify: bool,
     parent: Content,
     properties: Option<Vec<StyleProp>>,
-    schemes: Option<Vec<SchemeName>>,
+    schemes: Option<SchemeTable>,
 }
 
 impl Model for Settings {
     ghost use Rattle.std.specs.Prelude.{option_map, string_bytes};
-    ghost use Rattle.std.specs.Prelude.{IsTrue};
-    ghost use Rattle.pur_settings.specs.Rules.{Rules, is_for_fragments};
+    ghost use Rattle.std.specs.Prelude.{IsTrue, is_some, ◌||◌};
+    ghost use Rattle.std.specs.List.{list_all};
+    ghost use Rattle.pur_text.specs.Hosts.{is_host};
+    ghost use Rattle.pur_settings.specs.Prefixes.{is_id_prefix};
+    ghost use Rattle.pur_settings.specs.Rules.{Rules, is_for_fragments, is_host_or_none};
     ghost use Rattle.pur_settings.specs.Private.Texts.{text_held, texts_held};
 
     ghost Value = { Rules };
 
     ghost view = { λ settings. record {
-      attributes = option_map (λ attrs. attrs.items) settings.attributes;
+      attributes = settings.attributes;
       auto_paragraph = settings.auto_paragraph;
       denied_hosts = texts_held settings.denied_hosts;
       doctype = settings.doctype;
@@ -57,10 +65,16 @@ impl Model for Settings {
       linkify = settings.linkify;
       parent = settings.parent;
       properties = option_map (λ properties. properties.items) settings.properties;
-      schemes = option_map (λ schemes. schemes.items) settings.schemes;
+      schemes = settings.schemes;
     } };
 
-    ghost invariant = { λ settings. IsTrue (is_for_fragments settings.parent) };
+    ghost invariant = { λ settings. record {
+      parent : IsTrue (is_for_fragments settings.parent);
+      denied : IsTrue (list_all is_host (texts_held settings.denied_hosts));
+      own : IsTrue (is_host_or_none (option_map string_bytes settings.host));
+      prefix : IsTrue (is_id_prefix (text_held settings.id_prefix));
+      reach : IsTrue (settings.external || is_some (option_map string_bytes settings.host));
+    } };
 }
 
 impl Settings {
@@ -87,17 +101,18 @@ impl Settings {
         }
     }
 
-    /// Reads a settings text of at most 65,536 bytes: a TOML document with the keys `doctype`, `elements` and `version`
-    /// at its top level.
+    /// Reads a settings text of at most 65,536 bytes: a TOML document with the keys `attributes`, `denied_hosts`,
+    /// `doctype`, `elements`, `external`, `host`, `id_prefix`, `ids`, `parent`, `schemes` and `version` at its top level.
     ///
-    /// Fails at the first offence in the order of the keys' bytes, and where memory is wanting.
+    /// Fails at the first offence in the order of the keys' bytes; after all keys, where `external` is false and `host`
+    /// isn't there; and where memory is wanting.
     pub fn read(alloc: Global, text: &[u8]) -> Result<Settings, SettingsFault>
         requires { length text.now ≤ 2 ^ 16 }
         ensures value { result ≢ Err SettingsFault.Memory → result ≡ settings_of text.now }
         ensures first { IfErr result (λ fault. fault ≢ SettingsFault.Memory → fault ≢ SettingsFault.NotToml → IsRefusedFor text.now fault) }
     {
         match toml::table_from_slice(alloc, text) {
-            Ok(table) => read_table(&table),
+            Ok(table) => read_table(alloc, &table),
             Err(error) => {
                 if error.is_memory() {
                     Err(SettingsFault::Memory)
@@ -134,7 +149,7 @@ impl Settings {
     {
         let declared = has_attr(attributes(self.doctype, element), attr);
         let listed = match &self.attributes {
-            Some(attrs) => lists_attr(attrs.as_slice(), attr),
+            Some(attrs) => lists_attr(attrs, attr),
             None => true,
         };
         let wanted = listed || has_attr(required(element), attr);
@@ -156,7 +171,7 @@ impl Settings {
         ensures { result ≡ permits_a_scheme self.now scheme }
     {
         match &self.schemes {
-            Some(schemes) => has_scheme(schemes.as_slice(), scheme),
+            Some(schemes) => schemes.contains(scheme),
             None => true,
         }
     }
@@ -176,9 +191,10 @@ impl Settings {
         self.ids
     }
 
-    /// What stands in front of each `id`.
+    /// What stands in front of each `id`: nothing, or an id by itself, of at most 64 bytes.
     pub fn id_prefix(&self) -> &str
-        ensures { result.now ≡ self.now.id_prefix }
+        ensures value { result.now ≡ self.now.id_prefix }
+        ensures form { IsTrue (is_id_prefix self.now.id_prefix) }
     {
         match &self.id_prefix {
             Some(prefix) => prefix.as_str(),
@@ -200,9 +216,10 @@ impl Settings {
         self.auto_paragraph
     }
 
-    /// The hosts to which no URI may lead, themselves and below them.
+    /// The hosts to which no URI may lead, themselves and below them: canonical hosts.
     pub fn denied_hosts(&self) -> &[String]
-        ensures { map string_bytes result.now ≡ self.now.denied_hosts }
+        ensures value { map string_bytes result.now ≡ self.now.denied_hosts }
+        ensures form { IsTrue (list_all is_host self.now.denied_hosts) }
     {
         match &self.denied_hosts {
             Some(hosts) => hosts.as_slice(),
@@ -210,9 +227,10 @@ impl Settings {
         }
     }
 
-    /// The site's own host, if it is told.
+    /// The site's own host, if it is told: a canonical host.
     pub fn host(&self) -> Option<&str>
-        ensures { option_copied result ≡ self.now.host }
+        ensures value { option_copied result ≡ self.now.host }
+        ensures form { IsTrue (is_host_or_none self.now.host) }
     {
         match &self.host {
             Some(host) => Some(host.as_str()),
@@ -220,11 +238,27 @@ impl Settings {
         }
     }
 
-    /// Whether URIs may lead to other hosts than the site's own.
+    /// Whether URIs may lead to other hosts than the site's own, which is told where they may not.
     pub fn external(&self) -> bool
-        ensures { result ≡ self.now.external }
+        ensures value { result ≡ self.now.external }
+        ensures reach { IsTrue (not (is_in_conflict self.now)) }
     {
         self.external
+    }
+
+    // Sets the list of attributes.
+    pub(crate) fn set_attributes(&mut self, attributes: AttributeTable)
+        ensures { self.new ≡ record self.old { attributes = Some attributes } }
+    {
+        self.attributes = Some(attributes);
+    }
+
+    // Sets the hosts to which no URI may lead.
+    pub(crate) fn set_denied_hosts(&mut self, hosts: Vec<String>)
+        requires { IsTrue (list_all is_host (map string_bytes hosts.items)) }
+        ensures { self.new ≡ record self.old { denied_hosts = map string_bytes hosts.items } }
+    {
+        self.denied_hosts = Some(hosts);
     }
 
     // Sets the doctype.
@@ -241,6 +275,37 @@ impl Settings {
         self.elements = Some(elements);
     }
 
+    // Sets whether URIs may lead to other hosts than the site's own, which is told where they may not.
+    pub(crate) fn set_external(&mut self, external: bool)
+        requires { IsTrue (external || is_some self.old.host) }
+        ensures { self.new ≡ record self.old { external = external } }
+    {
+        self.external = external;
+    }
+
+    // Sets the site's own host.
+    pub(crate) fn set_host(&mut self, host: String)
+        requires { IsTrue (is_host (string_bytes host)) }
+        ensures { self.new ≡ record self.old { host = Some (string_bytes host) } }
+    {
+        self.host = Some(host);
+    }
+
+    // Sets what stands in front of ids.
+    pub(crate) fn set_id_prefix(&mut self, prefix: String)
+        requires { IsTrue (is_id_prefix (string_bytes prefix)) }
+        ensures { self.new ≡ record self.old { id_prefix = string_bytes prefix } }
+    {
+        self.id_prefix = Some(prefix);
+    }
+
+    // Sets whether elements may have an `id`.
+    pub(crate) fn set_ids(&mut self, ids: bool)
+        ensures { self.new ≡ record self.old { ids = ids } }
+    {
+        self.ids = ids;
+    }
+
     // Sets what the fragment may hold.
     pub(crate) fn set_parent(&mut self, parent: Content)
         requires { IsTrue (is_for_fragments parent) }
@@ -248,21 +313,23 @@ impl Settings {
     {
         self.parent = parent;
     }
+
+    // Sets the list of schemes.
+    pub(crate) fn set_schemes(&mut self, schemes: SchemeTable)
+        ensures { self.new ≡ record self.old { schemes = Some schemes } }
+    {
+        self.schemes = Some(schemes);
+    }
 }
 
-// Whether a list has an attribute that stands for this one.
-fn lists_attr(attrs: &[Attr], attr: Attr) -> bool
+// Whether a list has an attribute that stands for this one: it has this one, or this is `lang` or `xml:lang` and it has
+// one of the two.
+#[tactic(auto, using(crate::proofs::ListLemmas::meant_by))]
+fn lists_attr(attrs: &AttributeTable, attr: Attr) -> bool
     ensures { result ≡ list_any (is_meant attr) attrs.now }
 {
-    attrs.iter().any(|listed| stands_for(*listed, attr))
-}
-
-// Whether an attribute of a list stands for this one: it is this one, or the two are `lang` and `xml:lang`.
-#[tactic(auto, using(crate::proofs::ListLemmas::same_attrs))]
-fn stands_for(listed: Attr, attr: Attr) -> bool
-    ensures { result ≡ is_meant attr listed }
-{
-    listed == attr || is_lang(listed) && is_lang(attr)
+    attrs.contains(attr)
+        || is_lang(attr) && (attrs.contains(Attr::Lang) || attrs.contains(Attr::XmlLang))
 }
 
 // Whether the attribute is `lang` or `xml:lang`.
@@ -284,11 +351,4 @@ fn has_prop(properties: &[StyleProp], property: StyleProp) -> bool
     ensures { result ≡ list_any (same_prop property) properties.now }
 {
     properties.iter().any(|listed| *listed == property)
-}
-
-// Whether the scheme is in the list.
-fn has_scheme(schemes: &[SchemeName], scheme: SchemeName) -> bool
-    ensures { result ≡ list_any (same_scheme scheme) schemes.now }
-{
-    schemes.contains(&scheme)
 }

@@ -3,6 +3,7 @@
 use crate::{Settings, SettingsFault};
 use pur_modules::{Content, Doctype};
 use pur_names::{Attr, Element, SchemeName, StyleProp};
+use std::alloc::Global;
 use std::test::Fail;
 
 // What a text gives: its fault, or the doctype and whether `p`, `font` and `br` are permitted.
@@ -157,6 +158,157 @@ fn values_of_the_wrong_kind(rt: HostRuntime) {
     }
 }
 
+// The fault of a text, if it has one.
+fn fault_of(alloc: Global, text: &str) -> Option<SettingsFault> {
+    if text.len() > 65_536 {
+        return None;
+    }
+    Settings::read(alloc, text.as_bytes()).err()
+}
+
+// Lists and truth values of another kind.
+static OTHER_KINDS: [&str; 25] = [
+    "attributes = 'class'",
+    "attributes = true",
+    "attributes = [1]",
+    "attributes = ['class', ['lang'], 'onclick']",
+    "[attributes]",
+    "denied_hosts = 'bad.com'",
+    "denied_hosts = ['bad.com', 1, 'Bad.com']",
+    "denied_hosts = [['bad.com']]",
+    "[denied_hosts]",
+    "external = 'false'",
+    "external = 0",
+    "external = 'false'\nhost = 'A.com'",
+    "host = 1",
+    "host = true",
+    "host = ['a.com']",
+    "[host]",
+    "id_prefix = 1",
+    "id_prefix = ['u-']",
+    "id_prefix = true",
+    "ids = 'true'",
+    "ids = 1",
+    "ids = [true]",
+    "schemes = 'http'",
+    "schemes = ['http', 80]",
+    "schemes.http = true",
+];
+
+#[test]
+fn values_of_another_kind(rt: HostRuntime) {
+    for text in OTHER_KINDS {
+        assert_eq!(rt;
+            fault_of(rt.alloc(), text),
+            Some(SettingsFault::WrongKind),
+            "{text}"
+        );
+    }
+}
+
+// Texts that aren't members.
+static OTHER_NAMES: [&str; 22] = [
+    "attributes = ['onclick']",
+    "attributes = ['name']",
+    "attributes = ['CLASS']",
+    "attributes = ['']",
+    "attributes = ['class', 'onclick', 1]",
+    "colour = 1\nattributes = ['onclick']",
+    "denied_hosts = ['Bad.com']",
+    "denied_hosts = ['bad.com', '']",
+    "denied_hosts = ['bad.com.']",
+    "denied_hosts = ['http://bad.com']",
+    "denied_hosts = ['bad.com', '*.bad.com', 1]",
+    "external = false\nhost = 'A.com'",
+    "host = ''",
+    "host = 'a.com:80'",
+    "host = '_a.com'",
+    "id_prefix = '1a'",
+    "id_prefix = '-a'",
+    "id_prefix = 'a b'",
+    "id_prefix = 'é'",
+    "schemes = ['javascript']",
+    "schemes = ['HTTP']",
+    "schemes = ['http:']",
+];
+
+#[test]
+fn names_that_are_no_members(rt: HostRuntime) {
+    for text in OTHER_NAMES {
+        assert_eq!(rt;
+            fault_of(rt.alloc(), text),
+            Some(SettingsFault::UnknownName),
+            "{text}"
+        );
+    }
+}
+
+// Keys that no part reads so far.
+static OTHER_KEYS: [&str; 3] = [
+    "auto_paragraph = true",
+    "linkify = true",
+    "properties = ['color']",
+];
+
+#[test]
+fn keys_that_are_not_known(rt: HostRuntime) {
+    for text in OTHER_KEYS {
+        assert_eq!(rt;
+            fault_of(rt.alloc(), text),
+            Some(SettingsFault::UnknownKey),
+            "{text}"
+        );
+    }
+}
+
+#[test]
+fn listed_attributes_are_permitted(rt: HostRuntime) -> Result<(), Fail> {
+    let text = b"attributes = ['class', 'xml:lang', 'class', 'id']";
+    let settings = Settings::read(rt.alloc(), text)?;
+    assert!(rt; settings.permits_attr(Element::P, Attr::Class));
+    assert!(rt; settings.permits_attr(Element::P, Attr::Lang));
+    assert!(rt; settings.permits_attr(Element::P, Attr::XmlLang));
+    assert!(rt; !settings.permits_attr(Element::Br, Attr::XmlLang));
+    assert!(rt; !settings.permits_attr(Element::P, Attr::Title));
+    assert!(rt; !settings.permits_attr(Element::P, Attr::Id));
+    let with_ids = Settings::read(rt.alloc(), b"ids = true\nattributes = ['id', 'lang']")?;
+    assert!(rt; with_ids.ids() && with_ids.permits_attr(Element::P, Attr::Id));
+    assert!(rt; with_ids.permits_attr(Element::P, Attr::XmlLang));
+    assert!(rt; !with_ids.permits_attr(Element::P, Attr::Class));
+    Ok(())
+}
+
+#[test]
+fn required_attributes_are_permitted_unlisted(rt: HostRuntime) -> Result<(), Fail> {
+    let settings = Settings::read(rt.alloc(), b"attributes = []")?;
+    assert!(rt; settings.permits_attr(Element::Img, Attr::Src));
+    assert!(rt; settings.permits_attr(Element::Img, Attr::Alt));
+    assert!(rt; settings.permits_attr(Element::Bdo, Attr::Dir));
+    assert!(rt; !settings.permits_attr(Element::P, Attr::Dir));
+    assert!(rt; !settings.permits_attr(Element::Img, Attr::Width));
+    Ok(())
+}
+
+#[test]
+fn ids_are_on_or_off(rt: HostRuntime) -> Result<(), Fail> {
+    let on = Settings::read(rt.alloc(), b"ids = true")?;
+    assert!(rt; on.ids() && on.permits_attr(Element::Br, Attr::Id));
+    let off = Settings::read(rt.alloc(), b"ids = false")?;
+    assert!(rt; !off.ids() && !off.permits_attr(Element::Br, Attr::Id));
+    Ok(())
+}
+
+#[test]
+fn listed_schemes_are_permitted(rt: HostRuntime) -> Result<(), Fail> {
+    let settings = Settings::read(rt.alloc(), b"schemes = ['tel', 'http', 'tel']")?;
+    assert!(rt; settings.permits_scheme(SchemeName::Http));
+    assert!(rt; settings.permits_scheme(SchemeName::Tel));
+    assert!(rt; !settings.permits_scheme(SchemeName::Https));
+    let none = Settings::read(rt.alloc(), b"schemes = []")?;
+    assert!(rt; !none.permits_scheme(SchemeName::Http));
+    Ok(())
+}
+
 #[test]
 fn what_no_key_tells_is_the_default(rt: HostRuntime) {
     let settings = Settings::defaults();
@@ -170,4 +322,104 @@ fn what_no_key_tells_is_the_default(rt: HostRuntime) {
     assert!(rt; !settings.linkify() && !settings.auto_paragraph());
     assert!(rt; settings.denied_hosts().is_empty());
     assert!(rt; settings.host().is_none() && settings.external());
+}
+
+#[test]
+fn prefixes_are_kept(rt: HostRuntime) -> Result<(), Fail> {
+    let settings = Settings::read(rt.alloc(), b"id_prefix = 'u-'")?;
+    assert_eq!(rt; settings.id_prefix(), "u-");
+    let all = Settings::read(rt.alloc(), b"id_prefix = 'Zz09-_.:'")?;
+    assert_eq!(rt; all.id_prefix(), "Zz09-_.:");
+    let none = Settings::read(rt.alloc(), b"id_prefix = ''")?;
+    assert_eq!(rt; none.id_prefix(), "");
+    Ok(())
+}
+
+// The fault of a text whose prefix has so many letters, if it has one.
+fn fault_of_prefix(alloc: Global, letters: usize) -> Result<Option<SettingsFault>, Fail> {
+    let mut text = String::from_str(alloc, "id_prefix = '")?;
+    for _ in 0..letters {
+        text.push('a')?;
+    }
+    text.push('\'')?;
+    Ok(fault_of(alloc, text.as_str()))
+}
+
+#[test]
+fn prefixes_have_at_most_64_bytes(rt: HostRuntime) -> Result<(), Fail> {
+    assert_eq!(rt; fault_of_prefix(rt.alloc(), 64)?, None);
+    assert_eq!(rt;
+        fault_of_prefix(rt.alloc(), 65)?,
+        Some(SettingsFault::UnknownName)
+    );
+    Ok(())
+}
+
+// The fault of a text whose own host has so many letters, if it has one.
+fn fault_of_host(alloc: Global, letters: usize) -> Result<Option<SettingsFault>, Fail> {
+    let mut text = String::from_str(alloc, "host = '")?;
+    for _ in 0..letters {
+        text.push('a')?;
+    }
+    text.push('\'')?;
+    Ok(fault_of(alloc, text.as_str()))
+}
+
+#[test]
+fn hosts_have_at_most_255_bytes(rt: HostRuntime) -> Result<(), Fail> {
+    assert_eq!(rt; fault_of_host(rt.alloc(), 255)?, None);
+    assert_eq!(rt;
+        fault_of_host(rt.alloc(), 256)?,
+        Some(SettingsFault::UnknownName)
+    );
+    Ok(())
+}
+
+#[test]
+fn denied_hosts_are_kept(rt: HostRuntime) -> Result<(), Fail> {
+    let settings = Settings::read(
+        rt.alloc(),
+        b"denied_hosts = ['bad.com', '[::1]', 'bad.com']",
+    )?;
+    let hosts = settings.denied_hosts();
+    assert_eq!(rt; hosts.len(), 3);
+    for (host, expected) in hosts.iter().zip(["bad.com", "[::1]", "bad.com"]) {
+        assert_eq!(rt; host.as_str(), expected);
+    }
+    let none = Settings::read(rt.alloc(), b"denied_hosts = []")?;
+    assert!(rt; none.denied_hosts().is_empty());
+    Ok(())
+}
+
+#[test]
+fn the_own_host_is_kept(rt: HostRuntime) -> Result<(), Fail> {
+    let own = Settings::read(rt.alloc(), b"host = 'a.com'\nexternal = false")?;
+    assert_eq!(rt; own.host(), Some("a.com"));
+    assert!(rt; !own.external());
+    let open = Settings::read(rt.alloc(), b"host = 'a.com'")?;
+    assert_eq!(rt; open.host(), Some("a.com"));
+    assert!(rt; open.external());
+    let plain = Settings::read(rt.alloc(), b"external = true")?;
+    assert!(rt; plain.host().is_none() && plain.external());
+    Ok(())
+}
+
+// Texts that are in conflict, or would be if they had no offence, with the fault of each.
+static CONFLICTS: [(&str, SettingsFault); 6] = [
+    ("external = false", SettingsFault::Conflict),
+    (
+        "denied_hosts = ['a.com']\nexternal = false\nids = true",
+        SettingsFault::Conflict,
+    ),
+    ("external = false\nversion = 2", SettingsFault::UnknownName),
+    ("external = false\nversion = '1'", SettingsFault::WrongKind),
+    ("external = false\nzone = 1", SettingsFault::UnknownKey),
+    ("external = false\ncolour = 1", SettingsFault::UnknownKey),
+];
+
+#[test]
+fn conflicts_come_after_all_keys(rt: HostRuntime) {
+    for (text, fault) in CONFLICTS {
+        assert_eq!(rt; fault_of(rt.alloc(), text), Some(fault), "{text}");
+    }
 }

@@ -6,7 +6,8 @@ use Rattle.std.specs.declared.cmp.Ordering.TheVariants.{Less}
 use Rattle.toml.specs.Data.{Data, Members, no_members, member}
 use Rattle.pur_settings.specs.Offences.{meaning_of}
 use Rattle.pur_settings.specs.Reading.{Reading, and_then, reading_map}
-use Rattle.pur_settings.specs.Rules.{Rules}
+use Rattle.pur_settings.specs.Rules.{Rules, default_rules}
+use Rattle.pur_settings.specs.Settings.{unless_conflict}
 use Rattle.pur_settings.specs.Table.{Row}
 
 -- a key is less than those of the members
@@ -27,3 +28,7 @@ with_member table rules key value = reading_map (λ change. change rules) (meani
 abbrev pub with_members : List Row → Members → Rules → Reading Rules
 with_members table no_members rules = Ok rules
 with_members table (member key value more) rules = and_then (with_member table rules key value) (with_members table more)
+
+-- the settings that the members of a document say, one after another, from the defaults, unless they are in conflict
+abbrev pub with_all : List Row → Members → Reading Rules
+with_all table whole = and_then (with_members table whole default_rules) unless_conflict

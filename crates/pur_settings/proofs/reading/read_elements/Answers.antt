@@ -4,14 +4,14 @@ use Rattle.toml.specs.View.{view, items_view}
 use Rattle.pur_settings.specs.Reading.{reading_map, items_in}
 use Rattle.pur_settings.specs.Table.{element_of, in_order}
 use Rattle.pur_settings.proofs.ReadingLemmas.{list-begun, list-past}
-use Rattle.pur_settings.proofs.SetLemmas.{in_order-none, in_order-twice}
+use Rattle.pur_settings.proofs.SetLemmas.{in_order-none, in_order-twice, in_order-more}
 use Rattle.pur_settings.proofs.reading.read_elements.Goals as goal
 
 pub loop-item-init : goal.loop-item-init
 loop-item-init c = record {
   settled = rw c.new-elements.ensures in_order-none;
   whole =
-      list-begun (element_of c.args.doctype) (view c.args.value.now) (items_view c.deref-item-items.result.now) c.new-elements.result
+      list-begun in_order (element_of c.args.doctype) (view c.args.value.now) (items_view c.deref-item-items.result.now) c.new-elements.result
       c.new-elements.ensures
       (sym (c.in_ok-read_items.ensures) ∙ ap (λ items. Ok (items_view items)) (sym c.deref-item-items.ensures.value));
 }
@@ -24,9 +24,9 @@ loop-item-preserved c =
     record {
       settled = rw c.insert.ensures (in_order-twice (c.in_ok-element.element ∷ c.loop-item.elements));
       whole =
-          list-past (element_of c.args.doctype) (view c.item-item.result) (items_view (drop (c.loop-item.item-index + 1) c.deref-item-items.result.now))
+          list-past in_order (element_of c.args.doctype) (view c.item-item.result) (items_view (drop (c.loop-item.item-index + 1) c.deref-item-items.result.now))
           c.in_ok-element.element c.loop-item.elements c.insert.new.self
-          (sym (c.in_ok-element.ensures)) c.insert.ensures
+          (sym (c.in_ok-element.ensures)) (λ more. rw c.insert.ensures (in_order-more c.in_ok-element.element c.loop-item.elements more))
           ∙ ap (λ values. reading_map (λ more. in_order (c.loop-item.elements ++ more)) (items_in (element_of c.args.doctype) (items_view values))) next
           ∙ c.loop-item.invariant.whole;
     }

@@ -6,3 +6,6 @@ returns-in_err-read_member-clause-ordered c = ascends-entries c.args.table.now.e
 
 pub returns-clause-ordered : goal.returns-clause-ordered
 returns-clause-ordered c = ascends-entries c.args.table.now.entries c.iter-name-items.ensures.ordered
+
+pub returns-in_err-settle-clause-ordered : goal.returns-in_err-settle-clause-ordered
+returns-in_err-settle-clause-ordered c = ascends-entries c.args.table.now.entries c.iter-name-items.ensures.ordered

@@ -7,4 +7,5 @@ use Rattle.pur_settings.proofs.reading.read_members.Given as goal
 
 abbrev pub invariant-loop-name : goal.invariant-loop-name
 invariant-loop-name l =
-    with_members (table_for l.fn.doctype) (members_view l.table.entries) default_rules ≡ with_members (table_for l.fn.doctype) (members_view l.name-iterator) l.settings
+    with_members (table_for l.fn.doctype) (members_view l.table.entries) default_rules
+    ≡ with_members (table_for l.fn.doctype) (members_view l.name-iterator) (record l.settings { external = l.external })
