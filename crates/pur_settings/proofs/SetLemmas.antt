@@ -1,5 +1,5 @@
 -- The sets of elements, attributes and schemes: what a table of truth values holds, a set with one more, a set in order.
-use Rattle.std.proofs.Common.{◌≡◌, ℕ, ◌<◌, Bool, true, List, [], ◌∷◌, ◌++◌, refl, length}
+use Rattle.std.proofs.Common.{◌≡◌, ◌<◌, Bool, true, List, [], ◌∷◌, ◌++◌, refl, length}
 use Rattle.std.specs.Prelude.{slice_set}
 use Rattle.pur_names.specs.Attributes.{all_attrs, attr_rank}
 use Rattle.pur_names.specs.Elements.{all_elements, element_rank}
