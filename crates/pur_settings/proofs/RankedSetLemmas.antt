@@ -1,7 +1,6 @@
 -- What a set of names has, and a set with one more, for any finite type whose members have a rank.
-use Rattle.std.proofs.Common.{◌≡◌, ℕ, ◌<◌, Bool, true, false, List, [], ◌∷◌, ◌++◌, Option, Some, ◌||◌, ◌&&◌, refl, ap, sym, ◌∙◌, nat_eq, length, slice_get, slice_index_or, arith, Ok, Err}
+use Rattle.std.proofs.Common.{◌≡◌, ℕ, ◌<◌, Bool, true, false, List, ◌∷◌, ◌++◌, Some, ◌||◌, ◌&&◌, refl, ap, sym, ◌∙◌, nat_eq, length, slice_get, slice_index_or, arith, Ok, Err}
 use Rattle.std.specs.Prelude.{slice_set}
-use Rattle.std.specs.Bool.{Decides}
 use Rattle.std.specs.List.{list_any, filter}
 use Rattle.std.proofs.lemmas.Bool.Decides.{Decides-eqb}
 use Rattle.std.proofs.lemmas.Grind.{common_steps}

@@ -36,17 +36,6 @@ pub told : (answer gives : Reading Rules) → IfOk answer (λ rules. gives ≡ O
 told (Ok rules) gives ok err other = sym ok
 told (Err fault) gives ok err other = sym (err (λ wanting. other (ap Err wanting)))
 
--- what was read, taken as it is
-same_reading : {A : Type 0} (reading : Reading A) → reading_map (λ value. value) reading ≡ reading
-same_reading (Ok value) = refl
-same_reading (Err fault) = refl
-
--- before the first item nothing is listed
-pub items-begun : {A : Type 0} (named : List ℕ → Option A) (value : Data) (items : Items) (listed : List A) → listed ≡ []
-    → ok_or (as_array value) WrongKind ≡ Ok items
-    → reading_map (λ more. listed ++ more) (items_in named items) ≡ list_in named value
-items-begun named value items listed empty array = rw (empty, array) (same_reading (items_in named items))
-
 -- before the first item of a list nothing is in the set
 pub list-begun : {A : Type 0} (order : List A → List A) (named : List ℕ → Option A) (value : Data) (items : Items) (set : List A) → set ≡ []
     → ok_or (as_array value) WrongKind ≡ Ok items

@@ -7,13 +7,13 @@ ghost use Rattle.std.specs.Ordering.{int_eq};
 ghost use Rattle.toml.specs.Data.{as_str, as_array};
 ghost use Rattle.toml.specs.View.{view, array_view, table_view};
 ghost use Rattle.pur_text.specs.Hosts.{is_host};
+ghost use Rattle.pur_names.specs.Schemes.{scheme_named};
 ghost use Rattle.pur_settings.specs.Prefixes.{is_id_prefix};
 ghost use Rattle.pur_settings.specs.Private.Walk.{Ascends, with_all, with_member};
 ghost use Rattle.pur_settings.specs.Reading.{reading_map, truth_in, text_in, list_in, number_in};
 ghost use Rattle.pur_settings.specs.Rules.{is_for_fragments};
 ghost use Rattle.pur_settings.specs.Settings.{doctype_in, settings_in, unless_conflict};
 ghost use Rattle.pur_settings.specs.Table.{attribute_of, attributes_in_order, content_in_parent, doctype_named, element_of, host_named, in_order, prefix_named, schemes_in_order, table_for};
-ghost use Rattle.pur_names.specs.Schemes.{scheme_named};
 
 use crate::attribute_table::AttributeTable;
 use crate::element_table::ElementTable;

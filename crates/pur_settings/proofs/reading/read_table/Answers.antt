@@ -4,7 +4,6 @@ use Rattle.toml.specs.View.{table_view}
 use Rattle.pur_settings.specs.Private.Walk.{with_all}
 use Rattle.pur_settings.specs.Reading.{Reading}
 use Rattle.pur_settings.specs.Rules.{Rules}
-use Rattle.pur_settings.specs.Settings.{settings_in}
 use Rattle.pur_settings.specs.Table.{table_for}
 use Rattle.pur_settings.specs.declared.faults.SettingsFault.TheVariants.{Memory}
 use Rattle.pur_settings.proofs.WalkLemmas.{walk_is_look_up}
