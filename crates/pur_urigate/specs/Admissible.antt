@@ -1,0 +1,32 @@
+-- Which URIs may stand in a value: what it is used for, the schemes that are permitted, and the rule of hosts.
+use Rattle.std.specs.Prelude.{ℕ, Bool, true, false, ◌&&◌, List, Option, IsTrue}
+use Rattle.std.specs.Option.{option_map_or}
+use Rattle.pur_names.specs.declared.schemes.SchemeName.{SchemeName}
+use Rattle.pur_names.specs.declared.schemes.SchemeName.TheVariants.{Http, Https, Ftp}
+use Rattle.pur_uri.specs.Uris.{PlainUri, uri_of}
+use Rattle.pur_urigate.specs.declared.uses.UriUse.{UriUse}
+use Rattle.pur_urigate.specs.declared.uses.UriUse.TheVariants.{Link, Embed}
+use Rattle.pur_urigate.specs.HostRules.{PlainHostRule, admits}
+
+-- a link may have any scheme; what is embedded is fetched at once, so it has one that fetches
+abbrev pub takes : UriUse → SchemeName → Bool
+takes Link scheme = true
+takes Embed Http = true
+takes Embed Https = true
+takes Embed Ftp = true
+takes Embed scheme = false
+
+-- the scheme is absent, or it is permitted and fits the use
+abbrev pub scheme_fits : UriUse → (SchemeName → Bool) → Option SchemeName → Bool
+scheme_fits purpose permitted scheme = option_map_or (λ s. permitted s && takes purpose s) scheme true
+
+-- the scheme fits, and the rule admits the URI
+unfoldable pub is_fit : UriUse → (SchemeName → Bool) → PlainHostRule → PlainUri → Bool
+is_fit purpose permitted rule uri = scheme_fits purpose permitted uri.scheme && admits rule uri
+
+-- a raw value is admissible where it has a reading that is fit
+unfoldable pub is_admissible : UriUse → (SchemeName → Bool) → PlainHostRule → List ℕ → Bool
+is_admissible purpose permitted rule raw = option_map_or (is_fit purpose permitted rule) (uri_of raw) false
+
+abbrev pub IsAdmissible : UriUse → (SchemeName → Bool) → PlainHostRule → List ℕ → Type 0
+IsAdmissible purpose permitted rule raw = IsTrue (is_admissible purpose permitted rule raw)
