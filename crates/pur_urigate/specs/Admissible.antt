@@ -16,13 +16,17 @@ takes Embed Https = true
 takes Embed Ftp = true
 takes Embed scheme = false
 
--- the scheme is absent, or it is permitted and fits the use
-abbrev pub scheme_fits : UriUse → (SchemeName → Bool) → Option SchemeName → Bool
-scheme_fits purpose permitted scheme = option_map_or (λ s. permitted s && takes purpose s) scheme true
+-- the schemes that fit the use; a relative reference has none, and fits
+abbrev pub fits : UriUse → Option SchemeName → Bool
+fits purpose scheme = option_map_or (takes purpose) scheme true
 
--- the scheme fits, and the rule admits the URI
+-- a relative reference needs no permitted scheme
+abbrev pub is_permitted : (SchemeName → Bool) → Option SchemeName → Bool
+is_permitted permitted scheme = option_map_or permitted scheme true
+
+-- the scheme is permitted or absent, it fits the use, and the rule admits the URI
 unfoldable pub is_fit : UriUse → (SchemeName → Bool) → PlainHostRule → PlainUri → Bool
-is_fit purpose permitted rule uri = scheme_fits purpose permitted uri.scheme && admits rule uri
+is_fit purpose permitted rule uri = is_permitted permitted uri.scheme && fits purpose uri.scheme && admits rule uri
 
 -- a raw value is admissible where it has a reading that is fit
 unfoldable pub is_admissible : UriUse → (SchemeName → Bool) → PlainHostRule → List ℕ → Bool

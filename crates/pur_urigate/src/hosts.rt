@@ -18,10 +18,11 @@ pub(crate) fn is_under(host: &[u8], domain: &[u8]) -> bool
 fn is_subdomain(host: &[u8], domain: &[u8]) -> bool
     ensures { result ≡ ends_with nat_eq host.now (0x2E ∷ domain.now) }
 {
-    match host.strip_suffix(domain) {
-        Some([.., b'.']) => true,
-        _ => false,
+    if host.len() <= domain.len() {
+        return false;
     }
+    let dot = host.len() - domain.len() - 1;
+    host[dot] == b'.' && host.ends_with(domain)
 }
 
 /// Whether the host is one of the domains or ends in a dot and one of them. The domains are sorted: the host and what is

@@ -1,9 +1,9 @@
 //! The rule of hosts.
-ghost use Rattle.std.specs.Prelude.{◌≡◌, ◌||◌, IsTrue, map, is_some, option_map, string_bytes, true};
+ghost use Rattle.std.specs.Prelude.{◌≡◌, ◌||◌, IsTrue, map, is_some, option_map, string_bytes, true, false};
 ghost use Rattle.std.specs.List.{list_all};
 ghost use Rattle.std.specs.Option.{option_map_or};
 ghost use Rattle.pur_text.specs.Hosts.{is_host};
-ghost use Rattle.pur_urigate.specs.HostRules.{PlainHostRule, in_order, admits, admits_host};
+ghost use Rattle.pur_urigate.specs.HostRules.{PlainHostRule, in_order, is_under, admits, admits_host};
 
 use crate::hosts::{is_under, is_under_any};
 use pur_uri::Uri;

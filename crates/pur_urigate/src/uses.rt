@@ -1,6 +1,6 @@
 //! What a URI is used for.
 ghost use Rattle.std.specs.Prelude.{◌≡◌};
-ghost use Rattle.pur_urigate.specs.Admissible.{takes};
+ghost use Rattle.pur_urigate.specs.Admissible.{fits, takes};
 
 use pur_names::SchemeName;
 
@@ -14,8 +14,18 @@ pub enum UriUse {
 }
 
 impl UriUse {
-    /// Whether a URI of the scheme fits the use: for a link all do; for what is embedded `http`, `https` and `ftp` do.
-    pub fn takes(self, scheme: SchemeName) -> bool
+    /// Whether a URI of the scheme, or without one, fits the use: for a link all do; for what is embedded `http`, `https`,
+    /// `ftp` and none do.
+    pub fn fits(self, scheme: Option<SchemeName>) -> bool
+        ensures { result ≡ fits self scheme }
+    {
+        match scheme {
+            Some(scheme) => self.takes(scheme),
+            None => true,
+        }
+    }
+
+    fn takes(self, scheme: SchemeName) -> bool
         ensures { result ≡ takes self scheme }
     {
         match self {
