@@ -1,5 +1,5 @@
 -- Which URIs may stand in a value: what it is used for, the schemes that are permitted, and the rule of hosts.
-use Rattle.std.specs.Prelude.{ℕ, Bool, true, false, ◌&&◌, List, Option, IsTrue}
+use Rattle.std.specs.Prelude.{◌≡◌, ℕ, Bool, true, false, ◌&&◌, List, Option, IsTrue}
 use Rattle.std.specs.Option.{option_map_or}
 use Rattle.pur_names.specs.declared.schemes.SchemeName.{SchemeName}
 use Rattle.pur_names.specs.declared.schemes.SchemeName.TheVariants.{Http, Https, Ftp}
@@ -23,6 +23,10 @@ fits purpose scheme = option_map_or (takes purpose) scheme true
 -- a relative reference needs no permitted scheme
 abbrev pub is_permitted : (SchemeName → Bool) → Option SchemeName → Bool
 is_permitted permitted scheme = option_map_or permitted scheme true
+
+-- what a closure says of schemes is whether they are permitted
+abbrev pub Tells : {P : Type 0} → (P → SchemeName → Bool → Type 0) → P → (SchemeName → Bool) → Type 0
+Tells said permits permitted = (scheme : SchemeName) (answer : Bool) → said permits scheme answer → answer ≡ permitted scheme
 
 -- the scheme is permitted or absent, it fits the use, and the rule admits the URI
 unfoldable pub is_fit : UriUse → (SchemeName → Bool) → PlainHostRule → PlainUri → Bool

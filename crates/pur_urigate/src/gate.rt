@@ -1,9 +1,13 @@
 //! The caller's closure, kept beside the rule that it answers by.
-ghost use Rattle.std.specs.Prelude.{◌≡◌};
+ghost use Rattle.std.specs.Prelude.{◌≡◌, Bool};
+ghost use Rattle.pur_names.specs.declared.schemes.SchemeName.{SchemeName};
 ghost use Rattle.pur_urigate.specs.HostRules.{admits};
+ghost use Rattle.pur_urigate.specs.Admissible.{Tells, is_permitted, is_fit};
 ghost use Rattle.pur_urigate.specs.Asking.{AnswersBy};
 
 use crate::rule::HostRule;
+use crate::uses::UriUse;
+use pur_names::SchemeName;
 use pur_uri::Uri;
 use std::marker::Model;
 
@@ -71,10 +75,35 @@ impl<F: UriTest> UriGate<F> {
         self.filter.ask(uri)
     }
 
+    /// Whether the URI may stand in a value of this use: its scheme is absent, or is permitted and fits the use, and the gate
+    /// admits it. `permits` says which schemes are permitted.
+    #[tactic(auto, unfolding(crate::specs::Admissible::is_fit))]
+    pub fn is_fit<P: Fn(SchemeName) -> bool + Drop>(
+        &self,
+        purpose: UriUse,
+        permits: P,
+        uri: &Uri,
+    ) -> bool
+        requires { P.IsAlwaysCallable permits }
+        ensures { (permitted : SchemeName → Bool) → Tells P.post permits permitted → result ≡ is_fit purpose permitted self.now uri.now }
+    {
+        is_permitted(permits, uri.scheme()) && purpose.fits(uri.scheme()) && self.admit(uri)
+    }
+
     /// The rule that the gate keeps.
     pub fn rule(&self) -> &HostRule
         ensures { result.now ≡ self.now }
     {
         &self.rule
+    }
+}
+
+fn is_permitted<P: Fn(SchemeName) -> bool + Drop>(permits: P, scheme: Option<SchemeName>) -> bool
+    requires { P.IsAlwaysCallable permits }
+    ensures { (permitted : SchemeName → Bool) → Tells P.post permits permitted → result ≡ is_permitted permitted scheme }
+{
+    match scheme {
+        Some(scheme) => permits(scheme),
+        None => true,
     }
 }

@@ -68,6 +68,12 @@ fn listed(alloc: Global, texts: &[&str]) -> Result<Vec<String>, AllocError> {
 fn all_are_hosts(texts: &[String]) -> bool
     ensures { result ≡ list_all is_host (map string_bytes texts.now) }
 {
+    each_is_host(texts)
+}
+
+fn each_is_host(texts: &[String]) -> bool
+    ensures { result ≡ list_all (λ text. is_host (string_bytes text)) texts.now }
+{
     texts.iter().all(|text| is_host(text.as_str()))
 }
 
@@ -154,6 +160,29 @@ fn asks_the_closure(rt: HostRuntime) -> Result<(), Fail> {
     Ok(())
 }
 
+/// Whether the URI is fit where `http`, `nntp` and `tel` are permitted.
+fn is_fit<F: UriTest>(gate: &UriGate<F>, purpose: UriUse, uri: &Uri) -> bool {
+    gate.is_fit(
+        purpose,
+        |scheme| matches!(
+            scheme,
+            SchemeName::Http | SchemeName::Nntp | SchemeName::Tel
+        ),
+        uri,
+    )
+}
+
+/// Whether the URI is fit as a link and to be embedded, where `bad.com` is denied.
+fn fits_gate<F: UriTest + Drop>(rule: HostRule, filter: F, uri: &Uri) -> (bool, bool)
+    requires { AnswersBy F.may_ask F.answers filter rule }
+{
+    let gate = UriGate::new(rule, filter);
+    (
+        is_fit(&gate, UriUse::Link, uri),
+        is_fit(&gate, UriUse::Embed, uri),
+    )
+}
+
 #[test]
 fn knows_schemes_of_uses(rt: HostRuntime) {
     for (scheme, embedded) in [
@@ -170,6 +199,45 @@ fn knows_schemes_of_uses(rt: HostRuntime) {
     }
     assert!(rt; UriUse::Link.fits(None));
     assert!(rt; UriUse::Embed.fits(None));
+}
+
+// A reference, whether it is fit as a link, whether it is fit to be embedded, and what the row shows.
+static FIT: [(&str, bool, bool, &str); 6] = [
+    ("http://a.b/", true, true, "a permitted scheme"),
+    (
+        "https://a.b/",
+        false,
+        false,
+        "a scheme that isn't permitted",
+    ),
+    ("nntp://a.b/", true, false, "a scheme that doesn't fetch"),
+    ("tel:1", true, false, "another, without a host"),
+    ("a/b", true, true, "no scheme"),
+    (
+        "//www.bad.com/",
+        false,
+        false,
+        "a denied host without a scheme",
+    ),
+];
+
+#[test]
+fn tells_what_is_fit(rt: HostRuntime) -> Result<(), Fail> {
+    let alloc = rt.alloc();
+    for (raw, link, embed, what) in &FIT {
+        match (
+            canon(alloc, raw)?,
+            denying(alloc, "bad.com")?,
+            denying(alloc, "bad.com")?,
+        ) {
+            (Some(uri), Some(own), Some(kept)) => {
+                let got = fits_gate(kept, |uri: &Uri| own.admits(uri), &uri);
+                assert_eq!(rt; got, (*link, *embed), "{what}");
+            }
+            _ => assert!(rt; false, "{what}"),
+        }
+    }
+    Ok(())
 }
 
 #[test]
