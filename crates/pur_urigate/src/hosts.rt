@@ -36,7 +36,8 @@ pub(crate) fn is_under_any(host: &[u8], domains: &[String]) -> bool
     }
     let mut rest = host;
     while let [byte, behind @ ..] = rest {
-        if *byte == b'.' && is_among(behind, domains) {
+        let is_dot = *byte == b'.';
+        if is_dot && is_among(behind, domains) {
             return true;
         }
         rest = behind;

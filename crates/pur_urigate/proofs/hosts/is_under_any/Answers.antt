@@ -18,9 +18,9 @@ loop-rest-init c =
 pub returns-then-is_among-2 : goal.returns-then-is_among-2
 returns-then-is_among-2 c =
     let domains = map string_bytes c.args.domains.now in
-    let passes = sym c.is_among-then-byte-eq46.ensures ∙ c.if-is_among-2.true in
+    let passes = sym c.is_among-then-is_dot.ensures ∙ c.if-is_among-2.true in
     sym (any-in_order (is_under c.args.host.now) domains ∙ c.loop-rest.invariant
-    ∙ dot_first (λ t. list_any (bytes_eq t) domains) c.loop-rest.rest.now c.in-len1-up.len_at_least c.if-byte-eq46.true passes)
+    ∙ dot_first (λ t. list_any (bytes_eq t) domains) c.loop-rest.rest.now c.in-len1-up.len_at_least c.if-is_dot.true passes)
 
 pub returns : goal.returns
 returns c =
