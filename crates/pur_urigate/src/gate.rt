@@ -8,7 +8,7 @@ ghost use Rattle.pur_urigate.specs.Asking.{AnswersBy};
 use crate::rule::HostRule;
 use crate::uses::UriUse;
 use pur_names::SchemeName;
-use pur_uri::Uri;
+use pur_uri::{Uri, uri_is_canonical};
 use std::marker::Model;
 
 /// What may be asked about a URI: every closure from a URI to a `bool`.
@@ -71,7 +71,7 @@ impl<F: UriTest> UriGate<F> {
     pub fn admit(&self, uri: &Uri) -> bool
         ensures { result ≡ admits self.now uri.now }
     {
-        uri.is_read_as_itself();
+        uri_is_canonical(uri);
         self.filter.ask(uri)
     }
 

@@ -35,8 +35,8 @@ impl Model for HostRule {
 impl HostRule {
     /// The rule that refuses the denied hosts, and where `external` is false all but the site's own host.
     ///
-    /// All are canonical hosts (`pur_text::is_host` tells): no other text is the host of a URI, so a rule of others would
-    /// deny nothing. The denied hosts are sorted where they stand; no memory is taken.
+    /// All are canonical hosts (`pur_text::is_host` tells), since no other text is the host of a URI. The denied hosts are
+    /// sorted where they stand; no memory is taken.
     pub fn new(mut denied: Vec<String>, host: Option<String>, external: bool) -> HostRule
         requires denied { IsTrue (list_all is_host (map string_bytes denied.items)) }
         requires host { IsTrue (option_map_or is_host (option_map string_bytes host) true) }
