@@ -1,12 +1,11 @@
 -- A host, and what is behind its dots.
-use Rattle.std.proofs.Common.{◌≡◌, ℕ, suc, ◌+◌, ◌-◌, ◌<◌, ◌≤◌, Bool, true, false, List, [], ◌∷◌, length, get_or, take, drop, refl, sym, ap, ◌∙◌, arith, ⊎_elim}
+use Rattle.std.proofs.Common.{◌≡◌, ℕ, suc, ◌-◌, ◌<◌, ◌≤◌, Bool, true, false, List, [], ◌∷◌, length, get_or, take, drop, refl, sym, ap, ◌∙◌, arith, ⊎_elim}
 use Rattle.std.specs.Prelude.{◌==◌, ◌&&◌, ◌||◌, nat_eq}
 use Rattle.std.specs.Cmp.Lexicographic.{pointwise, nat_list_eq_equiv, unequal}
 use Rattle.std.specs.List.{list_any, ends_with}
 use Rattle.std.specs.Str.{bytes_eq}
-use Rattle.std.specs.Cmp.{nat_eq_equiv}
 use Rattle.std.proofs.lemmas.Bool.{cases_lt}
-use Rattle.std.proofs.lemmas.List.{drop_all, drop_more, take_all}
+use Rattle.std.proofs.lemmas.List.{drop_all, take_all}
 use Rattle.pur_laws.proofs.Truth.{and_false, or_false}
 use Rattle.pur_urigate.specs.HostRules.{is_under}
 
@@ -84,25 +83,6 @@ under_any host domains =
     (λ i. list_any (λ d. bytes_eq host d || ends_behind host d i) domains)
     ∙ any-or (bytes_eq host) (λ d. any_behind_dot (λ t. bytes_eq t d) host) domains
     ∙ ap (λ b. list_any (bytes_eq host) domains || b) (any_behind host domains)
-
--- ---- the code's look at one domain
-
--- a dot where the domain's length and one are left, and the domain
-pub ends_at : (host domain : List ℕ) → length domain < length host
-    → ends_with nat_eq host (0x2E ∷ domain) ≡ (get_or host (length host - length domain - 1) 0 == 0x2E && ends_with nat_eq host domain)
-ends_at host domain longer =
-    let place = length host - length domain - 1 in
-    let here : length host - length (0x2E ∷ domain) ≡ place = omega (arith, longer) in
-    let behind : place + 1 ≡ length host - length domain = omega (arith, longer) in
-    ap (λ n. pointwise nat_eq (0x2E ∷ domain) (drop n host)) here
-    ∙ ap (pointwise nat_eq (0x2E ∷ domain)) (drop_more host place 0 (omega (arith, longer)))
-    ∙ (λ i. nat_eq_equiv.symm 0x2E (get_or host place 0) i && pointwise nat_eq domain (drop (behind i) host))
-
-pub too_long : (host domain : List ℕ) → length host ≤ length domain → ends_with nat_eq host (0x2E ∷ domain) ≡ false
-too_long host domain short =
-    let whole : length host - length (0x2E ∷ domain) ≡ 0 = omega (arith, short) in
-    ap (λ n. pointwise nat_eq (0x2E ∷ domain) (drop n host)) whole
-    ∙ unequal nat_eq (0x2E ∷ domain) host (λ same. omega (arith, short, same))
 
 -- ---- the walk over the dots
 
