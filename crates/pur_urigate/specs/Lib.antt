@@ -1,0 +1,3 @@
+pub mod Admissible
+pub mod Asking
+pub mod HostRules
