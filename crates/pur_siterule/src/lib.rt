@@ -1,0 +1,11 @@
+//! What a site's settings say of URIs: its rule of hosts, and which URIs are admissible under them.
+//!
+//! Settings stand on no crate of URIs, and the gate of hosts on no settings. All who stand on both, the passes, the styles, the
+//! judge and the engine, take the rule from here.
+#![tactic(auto)]
+
+mod hosts;
+#[cfg(test)]
+mod tests;
+
+pub use hosts::host_rule;
