@@ -1,0 +1,8 @@
+-- The name that waits for its value is text.
+use denote.Text.{Utf8}
+use denote.Shadow.{shadow}
+use Rattle.pur_token_rows.proofs.notation.tag_of.Given as goal
+
+abbrev pub invariant-loop-part : goal.invariant-loop-part
+invariant-loop-part l =
+    (goal.iterator-loop-part).can_next l.part-iterator × (goal.iterator-loop-part).is_finite l.part-iterator × shadow (Utf8 l.attr)
