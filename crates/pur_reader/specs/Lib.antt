@@ -1,3 +1,4 @@
+pub mod Attributes
 pub mod Validity
 pub mod Goodness
 pub mod Deciding

@@ -1,0 +1,9 @@
+//! The attributes of elements: those that are declared, permitted and read are kept with what their values are read as,
+//! ids get the site's prefix and stand once in a document, and what is missing is put in.
+//!
+//! So far there is no pass: the definition and its laws alone, each the contract of a function that does nothing.
+#![tactic(auto)]
+
+mod laws;
+
+pub use laws::worked_examples;
