@@ -3,4 +3,5 @@ pub mod Validity
 pub mod Goodness
 pub mod Deciding
 pub mod Rows
+pub mod AttributeRows
 pub mod Laws

@@ -6,4 +6,4 @@
 
 mod laws;
 
-pub use laws::{validity_is_decided, worked_examples};
+pub use laws::{attribute_examples, attributes_are_decided, validity_is_decided, worked_examples};
