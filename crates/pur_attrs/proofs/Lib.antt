@@ -1,0 +1,4 @@
+pub mod PairLemmas
+pub mod FirstLemmas
+pub mod ValueLemmas
+pub mod ElementLemmas

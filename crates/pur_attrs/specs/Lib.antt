@@ -2,3 +2,4 @@ pub mod Steps
 pub mod Ids
 pub mod Attributes
 pub mod Rows
+pub mod Laws
