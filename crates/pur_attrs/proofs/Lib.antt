@@ -2,3 +2,4 @@ pub mod PairLemmas
 pub mod FirstLemmas
 pub mod ValueLemmas
 pub mod ElementLemmas
+pub mod DocumentLemmas

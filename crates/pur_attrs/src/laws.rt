@@ -1,6 +1,44 @@
 //! Laws of valid attributes, each the contract of a function that does nothing.
 
+ghost use Rattle.pur_attrs.specs.Laws.{GivesValidValues, GivesRequired, GivesOneLanguage, PutsPrefixes, GivesDistinctIds, GivesValidAttributes};
 ghost use Rattle.pur_attrs.specs.Rows.{LeavesOutTheSecondId, PutsThePrefix, PutsThePrefixOnce, PutsThePrefixFirst, GoesInDocumentOrder, KeepsNoIdUnlessIdsAreOn, MakesANameAnId, DropsANameBesideAnId, DropsANameBesideAnUnreadId, DropsOtherNames, TellsBothLanguages, TellsTheLanguageOfXml, TellsTheLanguageAtTheEnd, PutsADirection, KeepsADirection, KeepsWhatIsRequired, KeepsWhatIsListed, ReadsValues, ReadsClasses, DropsWhatStrictLacks, DropsStylesAndLinks};
+
+use pur_values::canonical_is_read_as_itself;
+
+/// Each attribute is declared and permitted, and each value is its own reading, where the prefix is one that ids may
+/// have.
+pub fn gives_valid_values()
+    ensures { GivesValidValues }
+{
+    canonical_is_read_as_itself();
+}
+
+/// Required attributes are there, where there is no picture.
+pub fn gives_required()
+    ensures { GivesRequired }
+{}
+
+/// `lang` and `xml:lang` are both absent, or both there and the same.
+pub fn gives_one_language()
+    ensures { GivesOneLanguage }
+{}
+
+/// Ids begin with the prefix.
+pub fn puts_prefixes()
+    ensures { PutsPrefixes }
+{}
+
+/// No two ids are the same.
+pub fn gives_distinct_ids()
+    ensures { GivesDistinctIds }
+{}
+
+/// What comes out is valid in its attributes.
+pub fn gives_valid_attributes()
+    ensures { GivesValidAttributes }
+{
+    canonical_is_read_as_itself();
+}
 
 /// Worked examples of the definition.
 pub fn worked_examples()
