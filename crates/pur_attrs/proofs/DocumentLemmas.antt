@@ -1,6 +1,6 @@
 -- What becomes of the attributes of all elements, and of the ids of a document.
-use Rattle.std.proofs.Common.{◌≡◌, ◌≤◌, ◌+◌, ◌-◌, ℕ, Bool, true, false, not, ◌&&◌, List, [], ◌∷◌, ◌++◌, length, take, drop, map, Option, Some, None, refl, sym, ap, subst, ◌∙◌, arith, length-append}
-use Rattle.std.specs.List.{list_all, filter_map}
+use Rattle.std.proofs.Common.{◌≡◌, ℕ, Bool, true, ◌&&◌, List, [], ◌∷◌, ◌++◌, length, take, drop, map, Option, refl, sym, ap, ◌∙◌, arith, length-append}
+use Rattle.std.specs.List.{list_all}
 use Rattle.std.proofs.lemmas.Bool.{and_parts, and_from}
 use Rattle.std.proofs.lemmas.List.{take-append-drop, length-drop, length-take-le}
 use Rattle.std.proofs.lemmas.List.Elements.{filter_map-append}
@@ -14,7 +14,7 @@ use Rattle.pur_tokens.specs.Attributes.{Attribute}
 use Rattle.pur_tree.specs.Nodes.{PlainElem, Nodes, no_nodes, text_first, elem_first, plain_elem}
 use Rattle.pur_reader.specs.Attributes.{HasValidAttributes, has_valid_values, has_required, has_one_language, each_elem, ids_in, ids_of, begins_with, are_distinct}
 use Rattle.pur_attrs.specs.Attributes.{with_attributes, with_valid_attributes}
-use Rattle.pur_attrs.specs.Ids.{with_prefix, first_of_same, ids_kept, with_id, with_ids, with_first_ids}
+use Rattle.pur_attrs.specs.Ids.{with_prefix, ids_kept, with_ids}
 use Rattle.pur_attrs.specs.Laws.{is_no_picture}
 use Rattle.pur_attrs.specs.Steps.{kept_attributes, completed_attributes}
 use Rattle.pur_attrs.proofs.ElementLemmas.{kept-values, valid-id, id-values, id-told, completed-id, completed-language, completed-required, completed-values}

@@ -1,12 +1,10 @@
 -- What becomes of the attributes of one element.
-use Rattle.std.proofs.Common.{◌≡◌, ◌≤◌, ℕ, zero, suc, Bool, true, false, not, ◌&&◌, ◌||◌, cond, List, [], ◌∷◌, ◌++◌, length, take, Option, Some, None, refl, sym, ap, subst, ◌∙◌, arith}
+use Rattle.std.proofs.Common.{◌≡◌, ◌≤◌, ℕ, true, false, not, List, [], ◌∷◌, length, take, Option, Some, None, refl, sym, ap, ◌∙◌, arith}
 use Rattle.std.specs.Prelude.{codes}
-use Rattle.std.specs.List.{list_all, list_any, filter_map}
+use Rattle.std.specs.List.{list_all}
 use Rattle.std.specs.Option.{option_map_or, option_or}
 use Rattle.std.proofs.lemmas.Bool.{and_parts, and_from}
-use Rattle.std.proofs.lemmas.Option.{same_Some}
 use Rattle.pur_laws.proofs.Lists.{all-filter}
-use Rattle.pur_laws.proofs.Truth.{or_true}
 use Rattle.pur_names.specs.Elements.{same_element}
 use Rattle.pur_names.specs.declared.attributes.Attr.TheVariants.{Id}
 use Rattle.pur_names.specs.declared.elements.Element.{Element}
@@ -14,7 +12,7 @@ use Rattle.pur_names.specs.declared.elements.Element.TheVariants.{Bdo, Img}
 use Rattle.pur_settings.specs.Rules.{Rules, permits_attribute}
 use Rattle.pur_values.specs.Laws.{ReadAsItself}
 use Rattle.pur_values.specs.Tokens.{is_id}
-use Rattle.pur_tokens.specs.Attributes.{Attribute, is_same_text, has_name, value_of, with_value, with_new, without}
+use Rattle.pur_tokens.specs.Attributes.{Attribute, is_same_text, value_of, with_value}
 use Rattle.pur_tokens.proofs.TextLaws.{is_same_text-refl}
 use Rattle.pur_tree.specs.Nodes.{PlainElem, plain_elem}
 use Rattle.pur_reader.specs.Attributes.{is_canonical, is_valid_attribute, has_valid_values, has_required, are_alike, has_one_language, ids_in}

@@ -1,7 +1,7 @@
 -- Which attributes are valid: what is kept is, an id with a prefix, both languages, and a direction.
-use Rattle.std.proofs.Common.{◌≡◌, ℕ, ◌≤◌, ◌<◌, ◌^◌, Bool, true, false, not, ◌&&◌, ◌||◌, cond, nat_le, nat_lt, List, [], ◌∷◌, ◌++◌, map, Option, Some, None, refl, sym, ap, subst, ◌∙◌, arith}
+use Rattle.std.proofs.Common.{◌≡◌, ℕ, ◌^◌, Bool, true, false, ◌&&◌, ◌||◌, cond, nat_le, nat_lt, List, [], ◌∷◌, ◌++◌, Option, Some, None, refl, sym, ap, subst, ◌∙◌, arith}
 use mathlib.Core.Bool.{beq}
-use Rattle.std.specs.Prelude.{codes, if◌then◌else◌}
+use Rattle.std.specs.Prelude.{codes}
 use Rattle.std.specs.List.{list_all, list_any}
 use Rattle.std.specs.Option.{option_and_then, option_map, option_map_or}
 use Rattle.std.proofs.lemmas.Bool.{and_parts, and_from, cond-true, leb-true, ltb-true}

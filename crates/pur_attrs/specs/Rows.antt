@@ -3,11 +3,12 @@ use Rattle.std.specs.Prelude.{ℕ, ◌≡◌, true, List, [], ◌∷◌, Some, c
 use Rattle.pur_names.specs.declared.attributes.Attr.TheVariants.{Lang}
 use Rattle.pur_names.specs.declared.elements.Element.{Element}
 use Rattle.pur_names.specs.declared.elements.Element.TheVariants.{A, Bdo, Div, P, Table, Td, Tr}
-use Rattle.pur_modules.specs.declared.kinds.Doctype.TheVariants.{Strict}
+use Rattle.pur_modules.specs.declared.kinds.Doctype.TheVariants.{Strict, Transitional}
 use Rattle.pur_settings.specs.Rules.{Rules, default_rules}
 use Rattle.pur_tokens.specs.Attributes.{Attribute}
 use Rattle.pur_tree.specs.Nodes.{Nodes, no_nodes, text_first, elem_first, nodes_append, plain_elem}
 use Rattle.pur_attrs.specs.Attributes.{with_valid_attributes}
+use Rattle.pur_attrs.specs.Steps.{with_style_in}
 
 -- nodes one after another
 abbrev all_of : List Nodes → Nodes
@@ -147,6 +148,25 @@ ReadsClasses =
 abbrev pub DropsWhatStrictLacks : Type 0
 DropsWhatStrictLacks =
     with_valid_attributes strict (el P ((codes "align", codes "center") ∷ title ∷ [])) ≡ el P (title ∷ [])
+
+-- before that, `<p align="center">` has got `style="text-align:center;"` at its end
+abbrev pub StylesText : Type 0
+StylesText =
+    with_style_in Strict P ((codes "align", codes "center") ∷ title ∷ [])
+    ≡ (codes "align", codes "center") ∷ title ∷ (codes "style", codes "text-align:center;") ∷ []
+
+-- and `<td style="color:red" nowrap="x" bgcolor="blue" align="left">` has its own style behind that which is put in front
+abbrev pub PutsStylesInFront : Type 0
+PutsStylesInFront =
+    let others : List Attribute = (codes "nowrap", codes "x") ∷ (codes "bgcolor", codes "blue") ∷ (codes "align", codes "left") ∷ [] in
+    with_style_in Strict Td ((codes "style", codes "color:red") ∷ others)
+    ≡ (codes "style", codes "background-color:blue;white-space:nowrap;color:red") ∷ others
+
+-- in Transitional nothing is put
+abbrev pub StylesNothingInTransitional : Type 0
+StylesNothingInTransitional =
+    let attrs : List Attribute = (codes "align", codes "center") ∷ [] in
+    with_style_in Transitional P attrs ≡ attrs
 
 -- `<a href="x" style="color:red" onclick="y">x</a>` gives `<a>x</a>`, until links and styles are read
 abbrev pub DropsStylesAndLinks : Type 0

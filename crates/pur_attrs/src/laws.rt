@@ -1,7 +1,7 @@
 //! Laws of valid attributes, each the contract of a function that does nothing.
 
 ghost use Rattle.pur_attrs.specs.Laws.{GivesValidValues, GivesRequired, GivesOneLanguage, PutsPrefixes, GivesDistinctIds, GivesValidAttributes};
-ghost use Rattle.pur_attrs.specs.Rows.{LeavesOutTheSecondId, PutsThePrefix, PutsThePrefixOnce, PutsThePrefixFirst, GoesInDocumentOrder, KeepsNoIdUnlessIdsAreOn, MakesANameAnId, DropsANameBesideAnId, DropsANameBesideAnUnreadId, DropsOtherNames, TellsBothLanguages, TellsTheLanguageOfXml, TellsTheLanguageAtTheEnd, PutsADirection, KeepsADirection, KeepsWhatIsRequired, KeepsWhatIsListed, ReadsValues, ReadsClasses, DropsWhatStrictLacks, DropsStylesAndLinks};
+ghost use Rattle.pur_attrs.specs.Rows.{LeavesOutTheSecondId, PutsThePrefix, PutsThePrefixOnce, PutsThePrefixFirst, GoesInDocumentOrder, KeepsNoIdUnlessIdsAreOn, MakesANameAnId, DropsANameBesideAnId, DropsANameBesideAnUnreadId, DropsOtherNames, TellsBothLanguages, TellsTheLanguageOfXml, TellsTheLanguageAtTheEnd, PutsADirection, KeepsADirection, KeepsWhatIsRequired, KeepsWhatIsListed, ReadsValues, ReadsClasses, DropsWhatStrictLacks, StylesText, PutsStylesInFront, StylesNothingInTransitional, DropsStylesAndLinks};
 
 use pur_values::canonical_is_read_as_itself;
 
@@ -62,5 +62,8 @@ pub fn worked_examples()
     ensures values { ReadsValues }
     ensures classes { ReadsClasses }
     ensures strict { DropsWhatStrictLacks }
+    ensures styled { StylesText }
+    ensures styled_in_front { PutsStylesInFront }
+    ensures transitional { StylesNothingInTransitional }
     ensures styles_and_links { DropsStylesAndLinks }
 {}

@@ -7,6 +7,6 @@
 mod laws;
 
 pub use laws::{
-    gives_distinct_ids, gives_one_language, gives_required, gives_valid_attributes, gives_valid_values,
-    puts_prefixes, worked_examples,
+    gives_distinct_ids, gives_one_language, gives_required, gives_valid_attributes,
+    gives_valid_values, puts_prefixes, worked_examples,
 };

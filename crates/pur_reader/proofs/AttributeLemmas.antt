@@ -5,7 +5,7 @@ use Rattle.std.proofs.lemmas.Bool.{and_from, and_parts}
 use Rattle.pur_settings.specs.Rules.{Rules}
 use Rattle.pur_tree.specs.Nodes.{Nodes}
 use Rattle.pur_reader.specs.Attributes.{HasValidAttributes, has_valid_values, has_required, has_one_language, each_elem, ids_of, begins_with, are_distinct}
-use Rattle.pur_reader.specs.Deciding.{have_valid_ids, have_valid_attributes}
+use Rattle.pur_reader.specs.Deciding.{have_valid_attributes}
 
 pub attributes-if : (rules : Rules) (nodes : Nodes) → have_valid_attributes rules nodes ≡ true → HasValidAttributes rules nodes
 attributes-if rules nodes h =

@@ -32,5 +32,8 @@ returns c = record {
   values = refl;
   classes = refl;
   strict = refl;
+  styled = refl;
+  styled_in_front = refl;
+  transitional = refl;
   styles_and_links = refl;
 }
