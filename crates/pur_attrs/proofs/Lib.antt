@@ -3,3 +3,4 @@ pub mod FirstLemmas
 pub mod ValueLemmas
 pub mod ElementLemmas
 pub mod DocumentLemmas
+pub mod StayingLemmas

@@ -1,6 +1,10 @@
 //! Laws of valid attributes, each the contract of a function that does nothing.
 
-ghost use Rattle.pur_attrs.specs.Laws.{GivesValidValues, GivesRequired, GivesOneLanguage, PutsPrefixes, GivesDistinctIds, GivesValidAttributes};
+ghost use Rattle.pur_modules.specs.declared.kinds.Content.{Content};
+ghost use Rattle.pur_modules.specs.declared.kinds.Doctype.{Doctype};
+ghost use Rattle.pur_settings.specs.Rules.{Rules};
+ghost use Rattle.pur_tree.specs.Nodes.{Nodes};
+ghost use Rattle.pur_attrs.specs.Laws.{GivesValidValues, GivesRequired, GivesOneLanguage, PutsPrefixes, GivesDistinctIds, GivesValidAttributes, KeepsNodes, KeepsFree, KeepsPermitted, KeepsForests, KeepsWords, KeepsCounts};
 ghost use Rattle.pur_attrs.specs.Rows.{LeavesOutTheSecondId, PutsThePrefix, PutsThePrefixOnce, PutsThePrefixFirst, GoesInDocumentOrder, KeepsNoIdUnlessIdsAreOn, MakesANameAnId, DropsANameBesideAnId, DropsANameBesideAnUnreadId, DropsOtherNames, TellsBothLanguages, TellsTheLanguageOfXml, TellsTheLanguageAtTheEnd, PutsADirection, KeepsADirection, KeepsWhatIsRequired, KeepsWhatIsListed, ReadsValues, ReadsClasses, DropsWhatStrictLacks, StylesText, PutsStylesInFront, StylesNothingInTransitional, DropsStylesAndLinks};
 
 use pur_values::canonical_is_read_as_itself;
@@ -39,6 +43,36 @@ pub fn gives_valid_attributes()
 {
     canonical_is_read_as_itself();
 }
+
+/// Attributes aside, all stays as it was.
+pub fn keeps_nodes()
+    ensures { KeepsNodes }
+{}
+
+/// No element comes to stand in one that excludes it.
+pub fn keeps_free()
+    ensures { KeepsFree }
+{}
+
+/// All elements stay permitted.
+pub fn keeps_permitted()
+    ensures { KeepsPermitted }
+{}
+
+/// A forest stays one, and texts that weren't neighbours aren't.
+pub fn keeps_forests()
+    ensures { (rules : Rules) (nodes : Nodes) → KeepsForests rules nodes }
+{}
+
+/// A word stays one, and so do the children of each element.
+pub fn keeps_words()
+    ensures { (doctype : Doctype) (content : Content) (rules : Rules) (nodes : Nodes) → KeepsWords doctype content rules nodes }
+{}
+
+/// Each character stands as often as before.
+pub fn keeps_counts()
+    ensures { KeepsCounts }
+{}
 
 /// Worked examples of the definition.
 pub fn worked_examples()

@@ -8,5 +8,6 @@ mod laws;
 
 pub use laws::{
     gives_distinct_ids, gives_one_language, gives_required, gives_valid_attributes,
-    gives_valid_values, puts_prefixes, worked_examples,
+    gives_valid_values, keeps_counts, keeps_forests, keeps_free, keeps_nodes, keeps_permitted,
+    keeps_words, puts_prefixes, worked_examples,
 };
