@@ -12,8 +12,8 @@ use Rattle.pur_values.specs.Laws.{ReadAsItself}
 use Rattle.pur_values.specs.Tokens.{is_id}
 use Rattle.pur_tokens.specs.Attributes.{Attribute}
 use Rattle.pur_tree.specs.Nodes.{PlainElem, Nodes, no_nodes, text_first, elem_first, plain_elem}
-use Rattle.pur_reader.specs.Attributes.{HasValidAttributes, has_valid_values, has_required, has_one_language, each_elem, ids_in, ids_of, begins_with, are_distinct}
-use Rattle.pur_attrs.specs.Attributes.{with_attributes, with_valid_attributes}
+use Rattle.pur_reader.specs.Attributes.{HasValidAttributes, has_valid_values, has_required, has_one_language, each_elem, ids_in, ids_of, has_prefix, are_different}
+use Rattle.pur_attrs.specs.Attributes.{with_changed_attributes, with_valid_attributes}
 use Rattle.pur_attrs.specs.Ids.{with_prefix, ids_kept, with_ids}
 use Rattle.pur_attrs.specs.Laws.{is_no_picture}
 use Rattle.pur_attrs.specs.Steps.{kept_attributes, completed_attributes}
@@ -30,7 +30,7 @@ each-passes (elem_first e kids rest) = and_from _ _ (each-passes kids) (each-pas
 
 each-changed : (changed : Element → List Attribute → List Attribute) (before after : PlainElem → Bool)
     → ((e : PlainElem) → before e ≡ true → after (plain_elem e.name (changed e.name e.attrs)) ≡ true)
-    → (nodes : Nodes) → each_elem before nodes ≡ true → each_elem after (with_attributes changed nodes) ≡ true
+    → (nodes : Nodes) → each_elem before nodes ≡ true → each_elem after (with_changed_attributes changed nodes) ≡ true
 each-changed changed before after keeps no_nodes all = refl
 each-changed changed before after keeps (text_first s rest) all = each-changed changed before after keeps rest all
 each-changed changed before after keeps (elem_first e kids rest) all =
@@ -41,12 +41,12 @@ each-changed changed before after keeps (elem_first e kids rest) all =
 
 ids-changed : (changed : Element → List Attribute → List Attribute)
     → ((element : Element) (attrs : List Attribute) → ids_in (changed element attrs) ≡ ids_in attrs)
-    → (nodes : Nodes) → ids_of (with_attributes changed nodes) ≡ ids_of nodes
+    → (nodes : Nodes) → ids_of (with_changed_attributes changed nodes) ≡ ids_of nodes
 ids-changed changed same no_nodes = refl
 ids-changed changed same (text_first s rest) = ids-changed changed same rest
 ids-changed changed same (elem_first e kids rest) =
-    ap (λ l. l ++ (ids_of (with_attributes changed kids) ++ ids_of (with_attributes changed rest))) (same e.name e.attrs)
-    ∙ ap (λ l. ids_in e.attrs ++ (l ++ ids_of (with_attributes changed rest))) (ids-changed changed same kids)
+    ap (λ l. l ++ (ids_of (with_changed_attributes changed kids) ++ ids_of (with_changed_attributes changed rest))) (same e.name e.attrs)
+    ∙ ap (λ l. ids_in e.attrs ++ (l ++ ids_of (with_changed_attributes changed rest))) (ids-changed changed same kids)
     ∙ ap (λ l. ids_in e.attrs ++ (ids_of kids ++ l)) (ids-changed changed same rest)
 
 -- ---- the ids of all
@@ -112,7 +112,7 @@ valid-ids rules (elem_first e kids rest) all =
 
 module _ (rules : Rules) (nodes : Nodes) where
   abbrev left : Nodes
-  left = with_attributes (kept_attributes rules) nodes
+  left = with_changed_attributes (kept_attributes rules) nodes
 
   abbrev told : List (Option (List ℕ))
   told = ids_kept rules.id_prefix (ids_of left)
@@ -121,11 +121,11 @@ module _ (rules : Rules) (nodes : Nodes) where
   all-ids =
       ids-changed completed_attributes completed-id (with_ids told left) ∙ ids-told told left (kept-length rules.id_prefix (ids_of left))
 
-  pub prefixed : list_all (begins_with rules.id_prefix) (ids_of (with_valid_attributes rules nodes)) ≡ true
-  prefixed = ap (list_all (begins_with rules.id_prefix)) all-ids ∙ kept-begin rules.id_prefix (ids_of left)
+  pub prefixed : list_all (has_prefix rules.id_prefix) (ids_of (with_valid_attributes rules nodes)) ≡ true
+  prefixed = ap (list_all (has_prefix rules.id_prefix)) all-ids ∙ kept-begin rules.id_prefix (ids_of left)
 
-  pub distinct : are_distinct (ids_of (with_valid_attributes rules nodes)) ≡ true
-  distinct = ap are_distinct all-ids ∙ kept-distinct rules.id_prefix (ids_of left)
+  pub distinct : are_different (ids_of (with_valid_attributes rules nodes)) ≡ true
+  distinct = ap are_different all-ids ∙ kept-distinct rules.id_prefix (ids_of left)
 
   pub languages : each_elem has_one_language (with_valid_attributes rules nodes) ≡ true
   languages =

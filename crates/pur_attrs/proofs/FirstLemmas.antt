@@ -8,7 +8,7 @@ use Rattle.std.proofs.lemmas.List.{length-map}
 use Rattle.pur_tokens.specs.Attributes.{is_same_text}
 use Rattle.pur_tokens.proofs.AttributeLaws.{both_false}
 use Rattle.pur_tokens.proofs.TextLaws.{is_same_text-refl}
-use Rattle.pur_reader.specs.Attributes.{begins_with, are_distinct}
+use Rattle.pur_reader.specs.Attributes.{has_prefix, are_different}
 use Rattle.pur_attrs.specs.Ids.{with_prefix, unless_same, first_of_same, ids_kept}
 
 -- those that are there
@@ -53,22 +53,22 @@ none-kept test (text ∷ texts) = go (test text) refl (none-kept test texts)
     go true e rest = rest
     go false e rest = ap (λ b. b || list_any test (filter (λ t. not (test t)) texts)) e ∙ rest
 
-distinct-filter : (keep : List ℕ → Bool) (texts : List (List ℕ)) → are_distinct texts ≡ true → are_distinct (filter keep texts) ≡ true
+distinct-filter : (keep : List ℕ → Bool) (texts : List (List ℕ)) → are_different texts ≡ true → are_different (filter keep texts) ≡ true
 distinct-filter keep [] apart = refl
 distinct-filter keep (text ∷ texts) apart =
-    let parts = and_parts (not (list_any (is_same_text text) texts)) (are_distinct texts) apart in
+    let parts = and_parts (not (list_any (is_same_text text) texts)) (are_different texts) apart in
     go (keep text) (not-true _ parts.0) (distinct-filter keep texts parts.1)
   where
-    go : (b : Bool) → list_any (is_same_text text) texts ≡ false → are_distinct (filter keep texts) ≡ true
-        → are_distinct (cond b (text ∷ filter keep texts) (filter keep texts)) ≡ true
+    go : (b : Bool) → list_any (is_same_text text) texts ≡ false → are_different (filter keep texts) ≡ true
+        → are_different (cond b (text ∷ filter keep texts) (filter keep texts)) ≡ true
     go true none rest = and_from _ _ (ap not (none-filter (is_same_text text) keep texts none)) rest
     go false none rest = rest
 
-pub first-distinct : (ids : List (List ℕ)) → are_distinct (somes (first_of_same ids)) ≡ true
+pub first-distinct : (ids : List (List ℕ)) → are_different (somes (first_of_same ids)) ≡ true
 first-distinct [] = refl
 first-distinct (id ∷ ids) =
     let told = first_of_same ids in
-    subst (λ l. are_distinct (id ∷ l) ≡ true) (sym (somes-unless id told))
+    subst (λ l. are_different (id ∷ l) ≡ true) (sym (somes-unless id told))
     (and_from _ _ (ap not (none-kept (is_same_text id) (somes told))) (distinct-filter (other_than id) (somes told) (first-distinct ids)))
 
 pub first-length : (ids : List (List ℕ)) → length (first_of_same ids) ≡ length ids
@@ -115,18 +115,18 @@ all-true (x ∷ xs) = all-true xs
 pub kept-length : (prefix : List ℕ) (ids : List (List ℕ)) → length (ids_kept prefix ids) ≡ length ids
 kept-length prefix ids = first-length (map (with_prefix prefix) ids) ∙ length-map ids (with_prefix prefix)
 
-pub begins-with_prefix : (prefix id : List ℕ) → begins_with prefix (with_prefix prefix id) ≡ true
-begins-with_prefix prefix id = go (begins_with prefix id) refl
+pub begins-with_prefix : (prefix id : List ℕ) → has_prefix prefix (with_prefix prefix id) ≡ true
+begins-with_prefix prefix id = go (has_prefix prefix id) refl
   where
-    go : (b : Bool) → begins_with prefix id ≡ b → begins_with prefix (cond b id (prefix ++ id)) ≡ true
+    go : (b : Bool) → has_prefix prefix id ≡ b → has_prefix prefix (cond b id (prefix ++ id)) ≡ true
     go true e = e
     go false e = ap (λ t. is_same_text t prefix) (take-append_seam prefix id) ∙ is_same_text-refl prefix
 
-pub kept-begin : (prefix : List ℕ) (ids : List (List ℕ)) → list_all (begins_with prefix) (somes (ids_kept prefix ids)) ≡ true
+pub kept-begin : (prefix : List ℕ) (ids : List (List ℕ)) → list_all (has_prefix prefix) (somes (ids_kept prefix ids)) ≡ true
 kept-begin prefix ids =
-    all-somes (begins_with prefix) (ids_kept prefix ids)
-    (first-passes (begins_with prefix) (map (with_prefix prefix) ids)
-    (all-mapped (begins_with prefix) (with_prefix prefix) (λ id. true) (λ id is. begins-with_prefix prefix id) ids (all-true ids)))
+    all-somes (has_prefix prefix) (ids_kept prefix ids)
+    (first-passes (has_prefix prefix) (map (with_prefix prefix) ids)
+    (all-mapped (has_prefix prefix) (with_prefix prefix) (λ id. true) (λ id is. begins-with_prefix prefix id) ids (all-true ids)))
 
-pub kept-distinct : (prefix : List ℕ) (ids : List (List ℕ)) → are_distinct (somes (ids_kept prefix ids)) ≡ true
+pub kept-distinct : (prefix : List ℕ) (ids : List (List ℕ)) → are_different (somes (ids_kept prefix ids)) ≡ true
 kept-distinct prefix ids = first-distinct (map (with_prefix prefix) ids)

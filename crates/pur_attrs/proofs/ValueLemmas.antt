@@ -36,21 +36,21 @@ use Rattle.pur_values.proofs.TableLemmas.{agree_at}
 use Rattle.pur_values.proofs.TightLemmas.{solid-tight}
 use Rattle.pur_tokens.specs.Attributes.{Attribute, is_same_text}
 use Rattle.pur_tokens.proofs.TextLaws.{same_text, is_same_text-refl}
-use Rattle.pur_reader.specs.Attributes.{reading_of, is_canonical, is_valid_attribute, begins_with}
+use Rattle.pur_reader.specs.Attributes.{value_on, is_canonical, is_valid_attribute, has_prefix}
 use Rattle.pur_attrs.specs.Ids.{with_prefix}
 use Rattle.pur_attrs.specs.Steps.{kept_attribute}
 
 -- ---- values that are their own readings
 
 pub canonical-reading : (element : Element) (attr : Attr) (value : List ℕ) → is_canonical element attr value ≡ true
-    → reading_of element attr value ≡ Some value
-canonical-reading element attr value is = go (reading_of element attr value) is
+    → value_on element attr value ≡ Some value
+canonical-reading element attr value is = go (value_on element attr value) is
   where
     go : (o : Option (List ℕ)) → option_map_or (is_same_text value) o false ≡ true → o ≡ Some value
     go None h = absurd (cc)
     go (Some read) h = ap Some (sym (same_text value read h))
 
-pub reading-canonical : (element : Element) (attr : Attr) (value : List ℕ) → reading_of element attr value ≡ Some value
+pub reading-canonical : (element : Element) (attr : Attr) (value : List ℕ) → value_on element attr value ≡ Some value
     → is_canonical element attr value ≡ true
 reading-canonical element attr value is = ap (λ o. option_map_or (is_same_text value) o false) is ∙ is_same_text-refl value
 
@@ -91,8 +91,8 @@ unfolding kind_of
 kinds-sound = each_element (λ element. list_all (λ attr. is_sound_kind (kind_of element attr)) all_attrs) refl
 
 module _ (again : ReadAsItself) where
-  reading-again : (element : Element) (attr : Attr) (raw value : List ℕ) → reading_of element attr raw ≡ Some value
-      → reading_of element attr value ≡ Some value
+  reading-again : (element : Element) (attr : Attr) (raw value : List ℕ) → value_on element attr raw ≡ Some value
+      → value_on element attr value ≡ Some value
   reading-again element attr raw value is =
       option_and_then_some (λ k. value_of k raw) (kind_of element attr) value is
       (λ k has reads.
@@ -102,12 +102,12 @@ module _ (again : ReadAsItself) where
   pub kept-valid : (rules : Rules) (element : Element) (pair left : Attribute) → kept_attribute rules element pair ≡ Some left
       → is_valid_attribute rules element left ≡ true
   kept-valid rules element pair left is =
-      option_and_then_some (λ attr. cond (permits_attribute rules element attr) (option_map (λ value. (pair.0, value)) (reading_of element attr pair.1)) None)
+      option_and_then_some (λ attr. cond (permits_attribute rules element attr) (option_map (λ value. (pair.0, value)) (value_on element attr pair.1)) None)
       (attr_named pair.0) left is
       (λ attr named gives. permitted attr named (permits_attribute rules element attr) refl gives)
     where
       read : (attr : Attr) → attr_named pair.0 ≡ Some attr → permits_attribute rules element attr ≡ true → (o : Option (List ℕ))
-          → reading_of element attr pair.1 ≡ o → option_map {U = Attribute} (λ value. (pair.0, value)) o ≡ Some left → is_valid_attribute rules element left ≡ true
+          → value_on element attr pair.1 ≡ o → option_map {U = Attribute} (λ value. (pair.0, value)) o ≡ Some left → is_valid_attribute rules element left ≡ true
       read attr named permits None reads gives = absurd (cc)
       read attr named permits (Some value) reads gives =
           subst (λ l. is_valid_attribute rules element l ≡ true) (same_Some (pair.0, value) left gives)
@@ -115,8 +115,8 @@ module _ (again : ReadAsItself) where
           ∙ and_from _ _ permits (reading-canonical element attr value (reading-again element attr pair.1 value reads)))
 
       permitted : (attr : Attr) → attr_named pair.0 ≡ Some attr → (b : Bool) → permits_attribute rules element attr ≡ b
-          → cond b (option_map {U = Attribute} (λ value. (pair.0, value)) (reading_of element attr pair.1)) None ≡ Some left → is_valid_attribute rules element left ≡ true
-      permitted attr named true permits gives = read attr named permits (reading_of element attr pair.1) refl gives
+          → cond b (option_map {U = Attribute} (λ value. (pair.0, value)) (value_on element attr pair.1)) None ≡ Some left → is_valid_attribute rules element left ≡ true
+      permitted attr named true permits gives = read attr named permits (value_on element attr pair.1) refl gives
       permitted attr named false permits gives = absurd (cc)
 
 -- ---- ids
@@ -126,7 +126,7 @@ unfolding kind_of
 id-kind element =
     agree_at (λ e. kind_of e Id) (λ e. Some kind.Id) all_elements (element_rank element) element refl (all_elements-rank element)
 
-id-reading : (element : Element) (raw : List ℕ) → reading_of element Id raw ≡ kept_where (is_id (trimmed raw)) (trimmed raw)
+id-reading : (element : Element) (raw : List ℕ) → value_on element Id raw ≡ kept_where (is_id (trimmed raw)) (trimmed raw)
 unfolding value_of
 id-reading element raw = ap (option_and_then (λ k. value_of k raw)) (id-kind element)
 
@@ -159,7 +159,7 @@ id-behind (c ∷ prefix) id begins is =
     and_from _ _ parts.0 (all-append is_id_character prefix id parts.1 (id-characters id is))
 
 pub id-prefixed : (prefix id : List ℕ) → begins_an_id prefix ≡ true → is_id id ≡ true → is_id (with_prefix prefix id) ≡ true
-id-prefixed prefix id begins is = go (begins_with prefix id)
+id-prefixed prefix id begins is = go (has_prefix prefix id)
   where
     go : (b : Bool) → is_id (cond b id (prefix ++ id)) ≡ true
     go true = is

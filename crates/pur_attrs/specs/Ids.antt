@@ -2,11 +2,11 @@
 use Rattle.std.specs.Prelude.{ℕ, List, [], ◌∷◌, ◌++◌, map, take, drop, length, Option, None, Some, if◌then◌else◌, codes}
 use Rattle.pur_tokens.specs.Attributes.{Attribute, is_same_text, with_value, without}
 use Rattle.pur_tree.specs.Nodes.{Nodes, no_nodes, text_first, elem_first, plain_elem}
-use Rattle.pur_reader.specs.Attributes.{ids_in, ids_of, begins_with}
+use Rattle.pur_reader.specs.Attributes.{ids_in, ids_of, has_prefix}
 
 -- an id with the prefix in front, unless it begins with it
 abbrev pub with_prefix : List ℕ → List ℕ → List ℕ
-with_prefix prefix id = if begins_with prefix id then id else prefix ++ id
+with_prefix prefix id = if has_prefix prefix id then id else prefix ++ id
 
 -- an id, unless it is this one
 abbrev pub unless_same : List ℕ → Option (List ℕ) → Option (List ℕ)

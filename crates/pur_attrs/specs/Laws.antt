@@ -13,8 +13,8 @@ use Rattle.pur_tree.specs.Nodes.{PlainElem, Nodes, is_joined}
 use Rattle.pur_tree.specs.Properties.{Holds, free, permitted}
 use Rattle.pur_tree.specs.Walks.{count_in_text}
 use Rattle.pur_tree.specs.Words.{IsWord, HaveWords}
-use Rattle.pur_reader.specs.Attributes.{HasValidAttributes, has_valid_values, has_required, has_one_language, each_elem, ids_of, begins_with, are_distinct}
-use Rattle.pur_attrs.specs.Attributes.{with_attributes, with_valid_attributes}
+use Rattle.pur_reader.specs.Attributes.{HasValidAttributes, has_valid_values, has_required, has_one_language, each_elem, ids_of, has_prefix, are_different}
+use Rattle.pur_attrs.specs.Attributes.{with_changed_attributes, with_valid_attributes}
 
 -- whether an element is no picture: a picture needs a URI, and none is read yet
 abbrev pub is_no_picture : PlainElem → Bool
@@ -36,11 +36,11 @@ GivesOneLanguage = (rules : Rules) (nodes : Nodes) → each_elem has_one_languag
 
 -- ids begin with the prefix
 abbrev pub PutsPrefixes : Type 0
-PutsPrefixes = (rules : Rules) (nodes : Nodes) → list_all (begins_with rules.id_prefix) (ids_of (with_valid_attributes rules nodes)) ≡ true
+PutsPrefixes = (rules : Rules) (nodes : Nodes) → list_all (has_prefix rules.id_prefix) (ids_of (with_valid_attributes rules nodes)) ≡ true
 
 -- no two ids are the same
 abbrev pub GivesDistinctIds : Type 0
-GivesDistinctIds = (rules : Rules) (nodes : Nodes) → are_distinct (ids_of (with_valid_attributes rules nodes)) ≡ true
+GivesDistinctIds = (rules : Rules) (nodes : Nodes) → are_different (ids_of (with_valid_attributes rules nodes)) ≡ true
 
 -- all of this together
 abbrev pub GivesValidAttributes : Type 0
@@ -48,12 +48,12 @@ GivesValidAttributes = (rules : Rules) (nodes : Nodes) → begins_an_id rules.id
     → HasValidAttributes rules (with_valid_attributes rules nodes)
 
 -- nodes without attributes
-abbrev pub without_attributes : Nodes → Nodes
-without_attributes nodes = with_attributes (λ element attrs. []) nodes
+abbrev pub bare_nodes : Nodes → Nodes
+bare_nodes nodes = with_changed_attributes (λ element attrs. []) nodes
 
 -- attributes aside, all stays as it was
 abbrev pub KeepsNodes : Type 0
-KeepsNodes = (rules : Rules) (nodes : Nodes) → without_attributes (with_valid_attributes rules nodes) ≡ without_attributes nodes
+KeepsNodes = (rules : Rules) (nodes : Nodes) → bare_nodes (with_valid_attributes rules nodes) ≡ bare_nodes nodes
 
 -- no element stands in one that excludes it, where none did
 abbrev pub KeepsFree : Type 0

@@ -10,7 +10,7 @@ use Rattle.pur_modules.specs.declared.kinds.Doctype.{Doctype}
 use Rattle.pur_modules.specs.declared.kinds.Doctype.TheVariants.{Strict, Transitional}
 use Rattle.pur_settings.specs.Rules.{Rules, permits_attribute}
 use Rattle.pur_tokens.specs.Attributes.{Attribute, is_same_text, has_name, value_of, with_value, with_new, without}
-use Rattle.pur_reader.specs.Attributes.{reading_of}
+use Rattle.pur_reader.specs.Attributes.{value_on}
 
 -- ---- the name of an anchor or a picture (XHTML 1.0, section 4.10)
 
@@ -53,7 +53,7 @@ with_style_in Transitional element attrs = attrs
 abbrev pub kept_attribute : Rules → Element → Attribute → Option Attribute
 kept_attribute rules element pair =
     option_and_then
-    (λ attr. if permits_attribute rules element attr then option_map (λ value. (pair.0, value)) (reading_of element attr pair.1) else None)
+    (λ attr. if permits_attribute rules element attr then option_map (λ value. (pair.0, value)) (value_on element attr pair.1) else None)
     (attr_named pair.0)
 
 -- the attributes that are kept

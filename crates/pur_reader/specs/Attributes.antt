@@ -14,12 +14,12 @@ use Rattle.pur_tokens.specs.Attributes.{Attribute, is_same_text, has_name, value
 use Rattle.pur_tree.specs.Nodes.{PlainElem, Nodes, no_nodes, text_first, elem_first}
 
 -- what the value of an attribute on an element is read as; URIs and styles, which have no kind, aren't read yet
-abbrev pub reading_of : Element → Attr → List ℕ → Option (List ℕ)
-reading_of element attr raw = option_and_then (λ kind. values.value_of kind raw) (kind_of element attr)
+abbrev pub value_on : Element → Attr → List ℕ → Option (List ℕ)
+value_on element attr raw = option_and_then (λ kind. values.value_of kind raw) (kind_of element attr)
 
 -- whether a value is its own reading
 abbrev pub is_canonical : Element → Attr → List ℕ → Bool
-is_canonical element attr value = option_map_or (is_same_text value) (reading_of element attr value) false
+is_canonical element attr value = option_map_or (is_same_text value) (value_on element attr value) false
 
 -- whether an attribute is declared and permitted on an element, and its value is its own reading
 abbrev pub is_valid_attribute : Rules → Element → Attribute → Bool
@@ -62,13 +62,13 @@ ids_of (text_first s rest) = ids_of rest
 ids_of (elem_first e kids rest) = ids_in e.attrs ++ (ids_of kids ++ ids_of rest)
 
 -- whether a text begins with a prefix
-abbrev pub begins_with : List ℕ → List ℕ → Bool
-begins_with prefix text = is_same_text (take (length prefix) text) prefix
+abbrev pub has_prefix : List ℕ → List ℕ → Bool
+has_prefix prefix text = is_same_text (take (length prefix) text) prefix
 
 -- whether no two of the texts are the same (XML 1.0, section 3.3.1: the constraint on ids)
-abbrev pub are_distinct : List (List ℕ) → Bool
-are_distinct [] = true
-are_distinct (text ∷ texts) = not (list_any (is_same_text text) texts) && are_distinct texts
+abbrev pub are_different : List (List ℕ) → Bool
+are_different [] = true
+are_different (text ∷ texts) = not (list_any (is_same_text text) texts) && are_different texts
 
 -- each attribute is declared and permitted, and each value is its own reading; required ones are there; `lang` and
 -- `xml:lang` are both absent, or both there and the same; each id begins with the prefix, and no two are the same
@@ -76,5 +76,5 @@ pub record HasValidAttributes (rules : Rules) (nodes : Nodes) : Type 0 where
   pub values : each_elem (has_valid_values rules) nodes ≡ true
   pub required : each_elem has_required nodes ≡ true
   pub languages : each_elem has_one_language nodes ≡ true
-  pub prefixed : list_all (begins_with rules.id_prefix) (ids_of nodes) ≡ true
-  pub distinct : are_distinct (ids_of nodes) ≡ true
+  pub prefixed : list_all (has_prefix rules.id_prefix) (ids_of nodes) ≡ true
+  pub distinct : are_different (ids_of nodes) ≡ true

@@ -11,7 +11,7 @@ use Rattle.pur_settings.specs.Rules.{Rules, permits_element}
 use Rattle.pur_tree.specs.Nodes.{Nodes, no_nodes, text_first, elem_first, level_of}
 use Rattle.pur_tree.specs.Places.{level_limit}
 use Rattle.pur_tree.specs.Words.{word_of}
-use Rattle.pur_reader.specs.Attributes.{has_valid_values, has_required, has_one_language, each_elem, ids_of, begins_with, are_distinct}
+use Rattle.pur_reader.specs.Attributes.{has_valid_values, has_required, has_one_language, each_elem, ids_of, has_prefix, are_different}
 
 -- whether nodes are a word of a content kind
 abbrev pub are_word : Doctype → Content → Nodes → Bool
@@ -33,7 +33,7 @@ are_valid rules nodes =
 
 -- whether the ids of nodes are as settings want them
 abbrev pub have_valid_ids : Rules → Nodes → Bool
-have_valid_ids rules nodes = list_all (begins_with rules.id_prefix) (ids_of nodes) && are_distinct (ids_of nodes)
+have_valid_ids rules nodes = list_all (has_prefix rules.id_prefix) (ids_of nodes) && are_different (ids_of nodes)
 
 -- whether nodes have valid attributes
 abbrev pub have_valid_attributes : Rules → Nodes → Bool
