@@ -1,5 +1,5 @@
 -- The test of validity decides it.
-use Rattle.std.proofs.Common.{◌≡◌, ◌≤◌, ℕ, List, [], ◌∷◌, refl, Bool, true, false, ◌&&◌, not, nat_le}
+use Rattle.std.proofs.Common.{◌≡◌, List, [], ◌∷◌, refl, Bool, true, false, ◌&&◌, not}
 use Rattle.std.proofs.lemmas.Bool.{and_from, and_parts, le-leb, leb-true, not-true}
 use Rattle.pur_names.specs.declared.elements.Element.{Element}
 use Rattle.pur_modules.specs.declared.kinds.Content.{Content}
@@ -10,7 +10,7 @@ use Rattle.pur_settings.specs.Rules.{Rules, permits_element}
 use Rattle.pur_tree.specs.Nodes.{Nodes, no_nodes, text_first, elem_first, level_of}
 use Rattle.pur_tree.specs.Places.{level_limit}
 use Rattle.pur_tree.specs.Properties.{Holds, free, permitted}
-use Rattle.pur_tree.specs.Words.{word_of, IsWord, HaveWords}
+use Rattle.pur_tree.specs.Words.{word_of, HaveWords}
 use Rattle.pur_reader.specs.Deciding.{are_word, are_right, are_valid}
 use Rattle.pur_reader.specs.Validity.{IsValid}
 

@@ -1,7 +1,7 @@
 -- Worked examples of validity: what the filter writes for an input, and beside it a neighbour that one rule refuses.
 use Rattle.std.specs.Prelude.{ℕ, zero, suc, ◌≡◌, true, false, List, [], ◌∷◌, Some, codes}
 use Rattle.pur_names.specs.declared.elements.Element.{Element}
-use Rattle.pur_names.specs.declared.elements.Element.TheVariants.{A, B, Blockquote, Br, Caption, Del, Div, I, Ins, Li, Ol, P, Pre, Big, Table, Tbody, Td, Tfoot, Thead, Tr, Ul}
+use Rattle.pur_names.specs.declared.elements.Element.TheVariants.{A, B, Blockquote, Caption, Div, Ins, Li, P, Pre, Big, Table, Tbody, Td, Tfoot, Thead, Tr, Ul}
 use Rattle.pur_modules.specs.declared.kinds.Doctype.TheVariants.{Strict}
 use Rattle.pur_modules.specs.declared.kinds.Content.TheVariants.{Inline}
 use Rattle.pur_settings.specs.Rules.{Rules, default_rules}

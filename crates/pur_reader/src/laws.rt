@@ -1,7 +1,8 @@
 //! Laws of validity, each the contract of a function that does nothing.
 
-ghost use Rattle.pur_reader.specs.Laws.{ValidityIsDecided};
+ghost use Rattle.pur_reader.specs.Laws.{ValidityIsDecided, AttributesAreDecided};
 ghost use Rattle.pur_reader.specs.Rows.{TextInAFragment, BlocksInNoInline, ListsHaveItems, CaptionsComeFirst, TablesHaveBodies, FeetComeBeforeBodies, BodiesAreOfOneKind, CellsStandInRows, RowsHaveCells, LinksStandInNoLink, NothingBigInPre, EditsHoldWhatTheirParentHolds, StrictQuotesHoldBlocks, ElementsArePermitted, FragmentsHaveParents, LevelsEnd};
+ghost use Rattle.pur_reader.specs.AttributeRows.{AttributesAreDeclared, AttributesAreListed, ValuesAreReadAsThemselves, RequiredOnesAreThere, LanguagesAreTheSame, IdsNeedTheSetting, IdsHaveThePrefix, IdsAreDistinct};
 
 use pur_models::words_are_decided;
 
@@ -30,4 +31,21 @@ pub fn worked_examples()
     ensures permitted { ElementsArePermitted }
     ensures parents { FragmentsHaveParents }
     ensures levels { LevelsEnd }
+{}
+
+/// Nodes have valid attributes exactly where a test that computes finds them so.
+pub fn attributes_are_decided()
+    ensures { AttributesAreDecided }
+{}
+
+/// Worked examples of valid attributes, and neighbours that one rule refuses.
+pub fn attribute_examples()
+    ensures declared { AttributesAreDeclared }
+    ensures listed { AttributesAreListed }
+    ensures values { ValuesAreReadAsThemselves }
+    ensures required { RequiredOnesAreThere }
+    ensures languages { LanguagesAreTheSame }
+    ensures setting { IdsNeedTheSetting }
+    ensures prefix { IdsHaveThePrefix }
+    ensures distinct { IdsAreDistinct }
 {}

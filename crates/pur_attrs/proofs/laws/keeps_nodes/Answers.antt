@@ -1,0 +1,5 @@
+use Rattle.pur_attrs.proofs.StayingLemmas.{nodes_stay}
+use Rattle.pur_attrs.proofs.laws.keeps_nodes.Goals as goal
+
+pub returns : goal.returns
+returns c rules nodes = nodes_stay rules nodes

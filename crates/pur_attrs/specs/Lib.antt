@@ -1,0 +1,5 @@
+pub mod Steps
+pub mod Ids
+pub mod Attributes
+pub mod Rows
+pub mod Laws

@@ -1,0 +1,175 @@
+-- Worked examples of attributes.
+use Rattle.std.specs.Prelude.{ℕ, ◌≡◌, true, List, [], ◌∷◌, Some, codes}
+use Rattle.pur_names.specs.declared.attributes.Attr.TheVariants.{Lang}
+use Rattle.pur_names.specs.declared.elements.Element.{Element}
+use Rattle.pur_names.specs.declared.elements.Element.TheVariants.{A, Bdo, Div, P, Table, Td, Tr}
+use Rattle.pur_modules.specs.declared.kinds.Doctype.TheVariants.{Strict, Transitional}
+use Rattle.pur_settings.specs.Rules.{Rules, default_rules}
+use Rattle.pur_tokens.specs.Attributes.{Attribute}
+use Rattle.pur_tree.specs.Nodes.{Nodes, no_nodes, text_first, elem_first, nodes_append, plain_elem}
+use Rattle.pur_attrs.specs.Attributes.{with_valid_attributes}
+use Rattle.pur_attrs.specs.Steps.{with_style_in}
+
+-- nodes one after another
+abbrev all_of : List Nodes → Nodes
+all_of [] = no_nodes
+all_of (nodes ∷ more) = nodes_append nodes (all_of more)
+
+-- an element with attributes, round nodes
+abbrev round : Element → List Attribute → Nodes → Nodes
+round name attrs kids = elem_first (plain_elem name attrs) kids no_nodes
+
+-- one round the text `x`
+abbrev el : Element → List Attribute → Nodes
+el name attrs = round name attrs (text_first (codes "x") no_nodes)
+
+-- `title="t"`, `xml:lang="fr"` and `dir="rtl"`
+abbrev title : Attribute
+title = (codes "title", codes "t")
+
+abbrev french : Attribute
+french = (codes "xml:lang", codes "fr")
+
+abbrev to_the_left : Attribute
+to_the_left = (codes "dir", codes "rtl")
+
+-- ids are on, with this prefix
+abbrev prefixed : List ℕ → Rules
+prefixed prefix = record default_rules { ids = true; id_prefix = prefix }
+
+abbrev with_ids_on : Rules
+with_ids_on = prefixed []
+
+abbrev strict : Rules
+strict = record default_rules { doctype = Strict }
+
+-- `<p id="a">x</p><p id="a">x</p>` gives `<p id="a">x</p><p>x</p>`
+abbrev pub LeavesOutTheSecondId : Type 0
+LeavesOutTheSecondId =
+    let first = el P ((codes "id", codes "a") ∷ []) in
+    with_valid_attributes with_ids_on (all_of (first ∷ first ∷ [])) ≡ all_of (first ∷ el P [] ∷ [])
+
+-- with the prefix `u-`, `<p id="a">x</p>` gives `<p id="u-a">x</p>`
+abbrev pub PutsThePrefix : Type 0
+PutsThePrefix = with_valid_attributes (prefixed (codes "u-")) (el P ((codes "id", codes "a") ∷ [])) ≡ el P ((codes "id", codes "u-a") ∷ [])
+
+-- and that stays as it is
+abbrev pub PutsThePrefixOnce : Type 0
+PutsThePrefixOnce =
+    let nodes = el P ((codes "id", codes "u-a") ∷ []) in
+    with_valid_attributes (prefixed (codes "u-")) nodes ≡ nodes
+
+-- with it, `<p id="a">x</p><p id="u-a">x</p>` gives `<p id="u-a">x</p><p>x</p>`
+abbrev pub PutsThePrefixFirst : Type 0
+PutsThePrefixFirst =
+    let second = el P ((codes "id", codes "u-a") ∷ []) in
+    with_valid_attributes (prefixed (codes "u-")) (all_of (el P ((codes "id", codes "a") ∷ []) ∷ second ∷ [])) ≡ all_of (second ∷ el P [] ∷ [])
+
+-- `<div id="a"><p id="a">x</p></div><p id="b">x</p>` gives `<div id="a"><p>x</p></div><p id="b">x</p>`
+abbrev pub GoesInDocumentOrder : Type 0
+GoesInDocumentOrder =
+    let a = (codes "id", codes "a") ∷ [] in
+    let last = el P ((codes "id", codes "b") ∷ []) in
+    with_valid_attributes with_ids_on (all_of (round Div a (el P a) ∷ last ∷ [])) ≡ all_of (round Div a (el P []) ∷ last ∷ [])
+
+-- where ids are off, `<p id="a">x</p>` gives `<p>x</p>`
+abbrev pub KeepsNoIdUnlessIdsAreOn : Type 0
+KeepsNoIdUnlessIdsAreOn = with_valid_attributes default_rules (el P ((codes "id", codes "a") ∷ [])) ≡ el P []
+
+-- with the prefix `u-`, `<a name="t">x</a>` gives `<a id="u-t">x</a>`
+abbrev pub MakesANameAnId : Type 0
+MakesANameAnId = with_valid_attributes (prefixed (codes "u-")) (el A ((codes "name", codes "t") ∷ [])) ≡ el A ((codes "id", codes "u-t") ∷ [])
+
+-- `<a name="t" id="s">x</a>` gives `<a id="s">x</a>`
+abbrev pub DropsANameBesideAnId : Type 0
+DropsANameBesideAnId =
+    with_valid_attributes with_ids_on (el A ((codes "name", codes "t") ∷ (codes "id", codes "s") ∷ [])) ≡ el A ((codes "id", codes "s") ∷ [])
+
+-- `<a name="t" id="1">x</a>` gives `<a>x</a>`
+abbrev pub DropsANameBesideAnUnreadId : Type 0
+DropsANameBesideAnUnreadId = with_valid_attributes with_ids_on (el A ((codes "name", codes "t") ∷ (codes "id", codes "1") ∷ [])) ≡ el A []
+
+-- `<p name="t">x</p>` gives `<p>x</p>`
+abbrev pub DropsOtherNames : Type 0
+DropsOtherNames = with_valid_attributes with_ids_on (el P ((codes "name", codes "t") ∷ [])) ≡ el P []
+
+-- `<p lang="EN">x</p>` gives `<p lang="en" xml:lang="en">x</p>`
+abbrev pub TellsBothLanguages : Type 0
+TellsBothLanguages =
+    with_valid_attributes default_rules (el P ((codes "lang", codes "EN") ∷ []))
+    ≡ el P ((codes "lang", codes "en") ∷ (codes "xml:lang", codes "en") ∷ [])
+
+-- `<p lang="de" title="t" xml:lang="fr">x</p>` gives `<p lang="fr" title="t" xml:lang="fr">x</p>`
+abbrev pub TellsTheLanguageOfXml : Type 0
+TellsTheLanguageOfXml =
+    with_valid_attributes default_rules (el P ((codes "lang", codes "de") ∷ title ∷ french ∷ []))
+    ≡ el P ((codes "lang", codes "fr") ∷ title ∷ french ∷ [])
+
+-- `<p xml:lang="fr" title="t">x</p>` gives `<p xml:lang="fr" title="t" lang="fr">x</p>`
+abbrev pub TellsTheLanguageAtTheEnd : Type 0
+TellsTheLanguageAtTheEnd =
+    with_valid_attributes default_rules (el P (french ∷ title ∷ [])) ≡ el P (french ∷ title ∷ (codes "lang", codes "fr") ∷ [])
+
+-- `<bdo>x</bdo>` gives `<bdo dir="ltr">x</bdo>`
+abbrev pub PutsADirection : Type 0
+PutsADirection = with_valid_attributes default_rules (el Bdo []) ≡ el Bdo ((codes "dir", codes "ltr") ∷ [])
+
+-- `<bdo dir="RTL">x</bdo>` gives `<bdo dir="rtl">x</bdo>`
+abbrev pub KeepsADirection : Type 0
+KeepsADirection = with_valid_attributes default_rules (el Bdo ((codes "dir", codes "RTL") ∷ [])) ≡ el Bdo ((codes "dir", codes "rtl") ∷ [])
+
+-- where no attributes are listed, `<bdo dir="rtl" title="t">x</bdo>` gives `<bdo dir="rtl">x</bdo>`
+abbrev pub KeepsWhatIsRequired : Type 0
+KeepsWhatIsRequired =
+    with_valid_attributes (record default_rules { attributes = Some [] }) (el Bdo (to_the_left ∷ title ∷ [])) ≡ el Bdo (to_the_left ∷ [])
+
+-- where `lang` alone is listed, `<p title="t" xml:lang="fr">x</p>` gives `<p xml:lang="fr" lang="fr">x</p>`
+abbrev pub KeepsWhatIsListed : Type 0
+KeepsWhatIsListed =
+    with_valid_attributes (record default_rules { attributes = Some (Lang ∷ []) }) (el P (title ∷ french ∷ []))
+    ≡ el P (french ∷ (codes "lang", codes "fr") ∷ [])
+
+-- `<table border="007px" width="150%"><tr><td colspan="0" align="RIGHT">x</td></tr></table>` gives
+-- `<table border="7" width="100%"><tr><td align="right">x</td></tr></table>`
+abbrev pub ReadsValues : Type 0
+ReadsValues =
+    with_valid_attributes default_rules
+    (round Table ((codes "border", codes "007px") ∷ (codes "width", codes "150%") ∷ [])
+    (round Tr [] (el Td ((codes "colspan", codes "0") ∷ (codes "align", codes "RIGHT") ∷ []))))
+    ≡ round Table ((codes "border", codes "7") ∷ (codes "width", codes "100%") ∷ []) (round Tr [] (el Td ((codes "align", codes "right") ∷ [])))
+
+-- `<p class="a">x</p>` stays as it is
+abbrev pub ReadsClasses : Type 0
+ReadsClasses =
+    let nodes = el P ((codes "class", codes "a") ∷ []) in
+    with_valid_attributes default_rules nodes ≡ nodes
+
+-- in Strict `<p align="center" title="t">x</p>` gives `<p title="t">x</p>`, until styles are read
+abbrev pub DropsWhatStrictLacks : Type 0
+DropsWhatStrictLacks =
+    with_valid_attributes strict (el P ((codes "align", codes "center") ∷ title ∷ [])) ≡ el P (title ∷ [])
+
+-- before that, `<p align="center">` has got `style="text-align:center;"` at its end
+abbrev pub StylesText : Type 0
+StylesText =
+    with_style_in Strict P ((codes "align", codes "center") ∷ title ∷ [])
+    ≡ (codes "align", codes "center") ∷ title ∷ (codes "style", codes "text-align:center;") ∷ []
+
+-- and `<td style="color:red" nowrap="x" bgcolor="blue" align="left">` has its own style behind that which is put in front
+abbrev pub PutsStylesInFront : Type 0
+PutsStylesInFront =
+    let others : List Attribute = (codes "nowrap", codes "x") ∷ (codes "bgcolor", codes "blue") ∷ (codes "align", codes "left") ∷ [] in
+    with_style_in Strict Td ((codes "style", codes "color:red") ∷ others)
+    ≡ (codes "style", codes "background-color:blue;white-space:nowrap;color:red") ∷ others
+
+-- in Transitional nothing is put
+abbrev pub StylesNothingInTransitional : Type 0
+StylesNothingInTransitional =
+    let attrs : List Attribute = (codes "align", codes "center") ∷ [] in
+    with_style_in Transitional P attrs ≡ attrs
+
+-- `<a href="x" style="color:red" onclick="y">x</a>` gives `<a>x</a>`, until links and styles are read
+abbrev pub DropsStylesAndLinks : Type 0
+DropsStylesAndLinks =
+    with_valid_attributes default_rules
+    (el A ((codes "href", codes "x") ∷ (codes "style", codes "color:red") ∷ (codes "onclick", codes "y") ∷ [])) ≡ el A []

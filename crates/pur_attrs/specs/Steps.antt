@@ -1,0 +1,82 @@
+-- What becomes of the attributes of one element (HTML Purifier's fourth strategy).
+use Rattle.std.specs.Prelude.{ℕ, List, [], ◌∷◌, ◌++◌, map, Option, None, Some, if◌then◌else◌, codes}
+use Rattle.std.specs.List.{filter_map}
+use Rattle.std.specs.Option.{option_and_then, option_map, option_map_or, option_or}
+use Rattle.pur_names.specs.Attributes.{attr_named}
+use Rattle.pur_names.specs.declared.elements.Element.{Element}
+use Rattle.pur_names.specs.declared.elements.Element.TheVariants.{A, Bdo, Div, H1, H2, H3, H4, H5, H6, Img, P, Table, Td, Th, Tr}
+use Rattle.pur_modules.specs.Groups.{is_among}
+use Rattle.pur_modules.specs.declared.kinds.Doctype.{Doctype}
+use Rattle.pur_modules.specs.declared.kinds.Doctype.TheVariants.{Strict, Transitional}
+use Rattle.pur_settings.specs.Rules.{Rules, permits_attribute}
+use Rattle.pur_tokens.specs.Attributes.{Attribute, is_same_text, has_name, value_of, with_value, with_new, without}
+use Rattle.pur_reader.specs.Attributes.{value_on}
+
+-- ---- the name of an anchor or a picture (XHTML 1.0, section 4.10)
+
+-- a `name` as an `id`
+abbrev pub name_as_id : Attribute → Attribute
+name_as_id pair = if is_same_text (codes "name") pair.0 then (codes "id", pair.1) else pair
+
+-- on `a` and `img` a `name` becomes the `id` in its place; where an `id` is there, it goes
+abbrev pub with_name_as_id : Element → List Attribute → List Attribute
+with_name_as_id element attrs =
+    if is_among (A ∷ Img ∷ []) element
+    then (if has_name attrs (codes "id") then without attrs (codes "name") else map name_as_id attrs) else attrs
+
+-- ---- the style that Strict has for attributes (CSS 2.1, sections 14.2.1, 16.2 and 16.6)
+
+-- a declaration of what an attribute says, where the element is one of these and has the attribute
+abbrev pub styled_by : List Element → Element → (List ℕ → List ℕ) → Option (List ℕ) → List ℕ
+styled_by elements element declared found = if is_among elements element then option_map_or declared found [] else []
+
+-- where text stands, what is behind it, and that its lines aren't broken, in this order
+abbrev pub style_for : Element → List Attribute → List ℕ
+style_for element attrs =
+    styled_by (P ∷ Div ∷ H1 ∷ H2 ∷ H3 ∷ H4 ∷ H5 ∷ H6 ∷ []) element (λ value. codes "text-align:" ++ value ++ codes ";") (value_of attrs (codes "align"))
+    ++ styled_by (Table ∷ Tr ∷ Td ∷ Th ∷ []) element (λ value. codes "background-color:" ++ value ++ codes ";") (value_of attrs (codes "bgcolor"))
+    ++ styled_by (Td ∷ Th ∷ []) element (λ value. codes "white-space:nowrap;") (value_of attrs (codes "nowrap"))
+
+-- a style in front of that which is there, or as a new one at the end; the empty style changes nothing
+abbrev pub with_style : List ℕ → List Attribute → List Attribute
+with_style [] attrs = attrs
+with_style style attrs = with_value attrs (codes "style") (option_map_or (λ value. style ++ value) (value_of attrs (codes "style")) style)
+
+-- the attributes with the style that Strict has for some of them
+abbrev pub with_style_in : Doctype → Element → List Attribute → List Attribute
+with_style_in Strict element attrs = with_style (style_for element attrs) attrs
+with_style_in Transitional element attrs = attrs
+
+-- ---- what is kept
+
+-- an attribute with what its value is read as; none, where it isn't declared on the element, isn't permitted, or isn't read
+abbrev pub kept_attribute : Rules → Element → Attribute → Option Attribute
+kept_attribute rules element pair =
+    option_and_then
+    (λ attr. if permits_attribute rules element attr then option_map (λ value. (pair.0, value)) (value_on element attr pair.1) else None)
+    (attr_named pair.0)
+
+-- the attributes that are kept
+abbrev pub kept_attributes : Rules → Element → List Attribute → List Attribute
+kept_attributes rules element attrs =
+    filter_map (kept_attribute rules element) (with_style_in rules.doctype element (with_name_as_id element attrs))
+
+-- ---- what is put in
+
+-- the language that attributes tell: that of `xml:lang`, and else that of `lang`
+abbrev pub language_told : List Attribute → Option (List ℕ)
+language_told attrs = option_or (value_of attrs (codes "xml:lang")) (value_of attrs (codes "lang"))
+
+-- where a language is told, `lang` and `xml:lang` both tell it; what is missing stands at the end (XHTML 1.0, section C.7)
+abbrev pub with_language : Option (List ℕ) → List Attribute → List Attribute
+with_language None attrs = attrs
+with_language (Some language) attrs = with_value (with_value attrs (codes "lang") language) (codes "xml:lang") language
+
+-- a `bdo` without a direction goes from left to right; an `img` never stands here, since no URI is read yet
+abbrev pub with_required : Element → List Attribute → List Attribute
+with_required Bdo attrs = with_new attrs (codes "dir") (codes "ltr")
+with_required element attrs = attrs
+
+-- the attributes with those that are put in
+abbrev pub completed_attributes : Element → List Attribute → List Attribute
+completed_attributes element attrs = with_required element (with_language (language_told attrs) attrs)

@@ -1,0 +1,5 @@
+use Rattle.pur_reader.proofs.AttributeLemmas.{attributes-if, if-attributes}
+use Rattle.pur_reader.proofs.laws.attributes_are_decided.Goals as goal
+
+pub returns : goal.returns
+returns c rules nodes = (attributes-if rules nodes, if-attributes rules nodes)

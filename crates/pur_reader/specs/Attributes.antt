@@ -1,0 +1,80 @@
+-- What is valid of attributes under settings (XML 1.0, section 3.3; XHTML 1.0, the attribute lists of the two DTDs, and
+-- section C.7 on `lang` and `xml:lang`).
+use Rattle.std.specs.Prelude.{ℕ, Bool, true, false, ◌≡◌, ◌&&◌, not, List, [], ◌∷◌, ◌++◌, take, length, Option, None, Some, codes}
+use Rattle.std.specs.List.{list_all, list_any}
+use Rattle.std.specs.Option.{option_and_then, option_map_or}
+use Rattle.pur_names.specs.Attributes.{attr_name, attr_named}
+use Rattle.pur_names.specs.declared.attributes.Attr.{Attr}
+use Rattle.pur_names.specs.declared.elements.Element.{Element}
+use Rattle.pur_modules.specs.AttributeLists.{required_of}
+use Rattle.pur_settings.specs.Rules.{Rules, permits_attribute}
+use Rattle.pur_values.specs.Kinds.{kind_of}
+use Rattle.pur_values.specs.Values as values
+use Rattle.pur_tokens.specs.Attributes.{Attribute, is_same_text, has_name, value_of}
+use Rattle.pur_tree.specs.Nodes.{PlainElem, Nodes, no_nodes, text_first, elem_first}
+
+-- what the value of an attribute on an element is read as; URIs and styles, which have no kind, aren't read yet
+abbrev pub value_on : Element → Attr → List ℕ → Option (List ℕ)
+value_on element attr raw = option_and_then (λ kind. values.value_of kind raw) (kind_of element attr)
+
+-- whether a value is its own reading
+abbrev pub is_canonical : Element → Attr → List ℕ → Bool
+is_canonical element attr value = option_map_or (is_same_text value) (value_on element attr value) false
+
+-- whether an attribute is declared and permitted on an element, and its value is its own reading
+abbrev pub is_valid_attribute : Rules → Element → Attribute → Bool
+is_valid_attribute rules element pair =
+    option_map_or (λ attr. permits_attribute rules element attr && is_canonical element attr pair.1) (attr_named pair.0) false
+
+-- whether an element's attributes are all so
+abbrev pub has_valid_values : Rules → PlainElem → Bool
+has_valid_values rules e = list_all (is_valid_attribute rules e.name) e.attrs
+
+-- whether an element has the attributes that it must have
+abbrev pub has_required : PlainElem → Bool
+has_required e = list_all (λ attr. has_name e.attrs (attr_name attr)) (required_of e.name)
+
+-- whether two texts are both absent, or both there and the same
+abbrev pub are_alike : Option (List ℕ) → Option (List ℕ) → Bool
+are_alike None None = true
+are_alike None (Some second) = false
+are_alike (Some first) None = false
+are_alike (Some first) (Some second) = is_same_text first second
+
+-- whether `lang` and `xml:lang` are so
+abbrev pub has_one_language : PlainElem → Bool
+has_one_language e = are_alike (value_of e.attrs (codes "lang")) (value_of e.attrs (codes "xml:lang"))
+
+-- whether each element, at any depth, passes a test
+abbrev pub each_elem : (PlainElem → Bool) → Nodes → Bool
+each_elem test no_nodes = true
+each_elem test (text_first s rest) = each_elem test rest
+each_elem test (elem_first e kids rest) = test e && (each_elem test kids && each_elem test rest)
+
+-- the id among attributes, if there is one
+abbrev pub ids_in : List Attribute → List (List ℕ)
+ids_in attrs = option_map_or (λ id. id ∷ []) (value_of attrs (codes "id")) []
+
+-- the ids of all elements, in document order
+abbrev pub ids_of : Nodes → List (List ℕ)
+ids_of no_nodes = []
+ids_of (text_first s rest) = ids_of rest
+ids_of (elem_first e kids rest) = ids_in e.attrs ++ (ids_of kids ++ ids_of rest)
+
+-- whether a text begins with a prefix
+abbrev pub has_prefix : List ℕ → List ℕ → Bool
+has_prefix prefix text = is_same_text (take (length prefix) text) prefix
+
+-- whether no two of the texts are the same (XML 1.0, section 3.3.1: the constraint on ids)
+abbrev pub are_different : List (List ℕ) → Bool
+are_different [] = true
+are_different (text ∷ texts) = not (list_any (is_same_text text) texts) && are_different texts
+
+-- each attribute is declared and permitted, and each value is its own reading; required ones are there; `lang` and
+-- `xml:lang` are both absent, or both there and the same; each id begins with the prefix, and no two are the same
+pub record HasValidAttributes (rules : Rules) (nodes : Nodes) : Type 0 where
+  pub values : each_elem (has_valid_values rules) nodes ≡ true
+  pub required : each_elem has_required nodes ≡ true
+  pub languages : each_elem has_one_language nodes ≡ true
+  pub prefixed : list_all (has_prefix rules.id_prefix) (ids_of nodes) ≡ true
+  pub distinct : are_different (ids_of nodes) ≡ true
