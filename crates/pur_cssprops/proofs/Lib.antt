@@ -1,0 +1,11 @@
+pub mod ApartLaws
+pub mod FamilyLaws
+pub mod FormLaws
+pub mod KeywordLemmas
+pub mod NumberLemmas
+pub mod OneFormLaws
+pub mod ReadingLemmas
+pub mod SequenceLaws
+pub mod TextLemmas
+pub mod UrlLaws
+pub mod WordLaws

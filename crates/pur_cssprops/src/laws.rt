@@ -1,0 +1,37 @@
+//! What holds of all forms. Each law is the contract of a call that does nothing.
+ghost use Rattle.pur_cssprops.specs.Forms.{width, style, color, underline, overline, line_through};
+ghost use Rattle.pur_cssprops.specs.Laws.{NeverBoth, ReadAsItself};
+
+use pur_csstok::{
+    atom_is_word, color_is_read, colors_are_digits, families_are_read, length_is_read,
+    number_is_read, url_is_read, values_are_atoms, words_are_read,
+};
+use pur_uri::{reading_settles, text_is_canonical};
+
+/// What a value is read as is read as itself, for each form; so canonical values stay as they are.
+pub fn canonical_is_read_as_itself()
+    ensures { ReadAsItself }
+{
+    number_is_read();
+    length_is_read();
+    color_is_read();
+    colors_are_digits();
+    values_are_atoms();
+    atom_is_word();
+    words_are_read();
+    families_are_read();
+    url_is_read();
+    reading_settles();
+    text_is_canonical();
+}
+
+/// No word is two of the parts of a border, or two of the lines of a decoration. So a value has as many readings as words
+/// exactly where each word has one.
+pub fn words_have_one_form()
+    ensures width_or_style { NeverBoth width style }
+    ensures width_or_color { NeverBoth width color }
+    ensures style_or_color { NeverBoth style color }
+    ensures under_or_over { NeverBoth underline overline }
+    ensures under_or_through { NeverBoth underline line_through }
+    ensures over_or_through { NeverBoth overline line_through }
+{}

@@ -1,0 +1,423 @@
+//! What each form reads, by rows: the value, what it is read as, and what the row shows.
+ghost use Rattle.std.specs.Prelude.{◌≡◌, ◌∷◌, [], IfOk, IfSome, None, codes, true};
+ghost use Rattle.pur_urigate.specs.Asking.{AnswersBy};
+ghost use Rattle.pur_urigate.specs.HostRules.{in_order};
+
+use super::*;
+use pur_names::SchemeName;
+use pur_text::is_host;
+use pur_uri::Uri;
+use pur_urigate::{HostRule, UriGate, UriTest};
+use std::alloc::{AllocError, Global};
+use std::test::Fail;
+
+type Row = (&'static str, Option<&'static str>, &'static str);
+
+static COLORS: [Row; 7] = [
+    ("Red", Some("#ff0000"), "a name"),
+    ("#AbC", Some("#aabbcc"), "three digits"),
+    ("rGb(1, 2,300)", Some("#0102ff"), "numbers"),
+    ("transparent", None, "a word that isn't taken"),
+    ("INHERIT", Some("inherit"), "what every property takes"),
+    ("red red", None, "two colours"),
+    ("grey", None, "no colour"),
+];
+
+static BACKGROUNDS: [Row; 3] = [
+    ("Transparent", Some("transparent"), "the word"),
+    ("blue", Some("#0000ff"), "a colour"),
+    ("none", None, "another word"),
+];
+
+static FLOATS: [Row; 8] = [
+    ("left", Some("left"), "the first word"),
+    ("RiGht", Some("right"), "letters of either case"),
+    ("none", Some("none"), "the last word"),
+    ("both", None, "a word of another property"),
+    ("inherit", Some("inherit"), "what every property takes"),
+    ("inherit inherit", None, "that word twice"),
+    ("left right", None, "two words"),
+    ("", None, "nothing"),
+];
+
+static WEIGHTS: [Row; 4] = [
+    ("Bold", Some("bold"), "a word"),
+    ("400", Some("400"), "a word of digits"),
+    ("450", None, "other digits"),
+    ("0400", None, "a zero before them"),
+];
+
+static WIDTHS: [Row; 7] = [
+    ("AUTO", Some("auto"), "the word"),
+    ("010.50PX", Some("10.5px"), "a length"),
+    ("50%", Some("50%"), "a percentage"),
+    ("0em", Some("0"), "zero"),
+    ("-1px", None, "below zero"),
+    ("5", None, "no unit"),
+    ("normal", None, "a word of another property"),
+];
+
+static INDENTS: [Row; 4] = [
+    ("-2EM", Some("-2em"), "below zero"),
+    ("5%", Some("5%"), "a percentage"),
+    ("auto", None, "a word"),
+    ("inherit", Some("inherit"), "what every property takes"),
+];
+
+static SPACINGS: [Row; 4] = [
+    ("normal", Some("normal"), "the word"),
+    ("-1px", Some("-1px"), "a length below zero"),
+    ("5%", None, "a percentage"),
+    ("0%", None, "zero per cent"),
+];
+
+static LINE_HEIGHTS: [Row; 9] = [
+    ("Normal", Some("normal"), "the word"),
+    ("1.50", Some("1.5"), "a number"),
+    ("0", Some("0"), "zero"),
+    ("0px", Some("0"), "a length of zero"),
+    ("1.5em", Some("1.5em"), "a length"),
+    ("120%", Some("120%"), "a percentage"),
+    ("-1", None, "a number below zero"),
+    ("-1em", None, "a length below zero"),
+    ("auto", None, "another word"),
+];
+
+static FAMILIES: [Row; 4] = [
+    (
+        "Times  New Roman, SERIF",
+        Some("'Times New Roman',serif"),
+        "a name and a generic one",
+    ),
+    ("\"serif\"", Some("'serif'"), "a generic one in quotes"),
+    ("a;b, c", Some("'c'"), "a part that is dropped"),
+    ("a;b", None, "no part left"),
+];
+
+static MARGINS: [Row; 9] = [
+    ("1px", Some("1px"), "one word"),
+    ("0 Auto", Some("0 auto"), "two words"),
+    ("1px  2px\t3px", Some("1px 2px 3px"), "three words"),
+    ("1px 2px 3px -4%", Some("1px 2px 3px -4%"), "four words"),
+    ("1px 2px 3px 4px 5px", None, "five words"),
+    ("1px red", None, "a word of another form"),
+    ("", None, "no word"),
+    ("inherit", Some("inherit"), "what every property takes"),
+    ("1px inherit", None, "that word beside another"),
+];
+
+static BORDER_COLORS: [Row; 2] = [
+    (
+        "Red rgb(0, 0, 255)",
+        Some("#ff0000 #0000ff"),
+        "white space in parentheses",
+    ),
+    ("transparent red", Some("transparent #ff0000"), "the word"),
+];
+
+static BORDERS: [Row; 14] = [
+    (
+        "1px solid red",
+        Some("1px solid #ff0000"),
+        "width, style, colour",
+    ),
+    (
+        "red SOLID 1px",
+        Some("1px solid #ff0000"),
+        "the other way round",
+    ),
+    ("rgb(1, 2, 3) 0", Some("0 #010203"), "two of the three"),
+    ("Thin", Some("thin"), "a width alone"),
+    ("none", Some("none"), "a style alone"),
+    ("blue", Some("#0000ff"), "a colour alone"),
+    ("1px 2px", None, "two widths"),
+    ("solid dotted", None, "two styles"),
+    ("red blue", None, "two colours"),
+    ("1px solid transparent", None, "a word that isn't taken"),
+    ("1px solid red solid", None, "four words"),
+    ("5% solid", None, "a percentage"),
+    ("-1px", None, "below zero"),
+    ("", None, "no word"),
+];
+
+static DECORATIONS: [Row; 9] = [
+    ("None", Some("none"), "the word"),
+    ("underline", Some("underline"), "one line"),
+    (
+        "line-through UNDERLINE",
+        Some("underline line-through"),
+        "two lines, in order",
+    ),
+    (
+        "overline line-through underline",
+        Some("underline overline line-through"),
+        "three lines",
+    ),
+    ("none underline", None, "the word and a line"),
+    ("underline underline", None, "a line twice"),
+    ("blink", None, "another word"),
+    ("", None, "nothing"),
+    ("inherit", Some("inherit"), "what every property takes"),
+];
+
+static IMAGES: [Row; 11] = [
+    ("NONE", Some("none"), "the word"),
+    (
+        "URL( 'HTTP://a.b/c d' )",
+        Some("url(\"http://a.b/c%20d\")"),
+        "a URL in its one form",
+    ),
+    ("url(a.png)", Some("url(\"a.png\")"), "a relative one"),
+    ("url(\"\")", Some("url(\"\")"), "an empty one"),
+    ("url(https://a.b/)", None, "a scheme that isn't permitted"),
+    ("url(mailto:a)", None, "a scheme that isn't embedded"),
+    ("url(http://bad.com/)", None, "a host that is denied"),
+    ("url(x:y)", None, "no scheme"),
+    ("a.png", None, "no URL"),
+    ("url(a) url(b)", None, "two"),
+    ("inherit", Some("inherit"), "what every property takes"),
+];
+
+/// The rule that denies `bad.com`.
+fn rule(alloc: Global) -> Result<Option<HostRule>, AllocError>
+    ensures { IfOk result (λ rule. IfSome rule (λ r. r ≡ record { denied = in_order (codes "bad.com" ∷ []); host = None; external = true })) }
+{
+    if !is_host("bad.com") {
+        return Ok(None);
+    }
+    let mut denied = Vec::new(alloc);
+    denied.push("bad.com".to_string(alloc)?)?;
+    Ok(Some(HostRule::new(denied, None, true)))
+}
+
+/// What the value is read as where `http` and `mailto` are permitted.
+fn read<F: UriTest>(
+    alloc: Global,
+    form: ValueForm,
+    gate: &UriGate<F>,
+    raw: &str,
+) -> Result<Option<String>, AllocError> {
+    read_value(
+        alloc,
+        form,
+        gate,
+        |scheme| matches!(scheme, SchemeName::Http | SchemeName::Mailto),
+        raw,
+    )
+}
+
+/// The first value that isn't read as its row says, or whose reading isn't read as itself.
+fn first_other<F: UriTest + Drop>(
+    alloc: Global,
+    kept: HostRule,
+    filter: F,
+    form: ValueForm,
+    rows: &[Row],
+) -> Result<Option<&'static str>, AllocError>
+    requires { AnswersBy F.may_ask F.answers filter kept }
+{
+    let gate = UriGate::new(kept, filter);
+    for (raw, want, what) in rows {
+        if !is_read(alloc, form, &gate, raw, *want)? {
+            return Ok(Some(*what));
+        }
+    }
+    Ok(None)
+}
+
+fn is_read<F: UriTest>(
+    alloc: Global,
+    form: ValueForm,
+    gate: &UriGate<F>,
+    raw: &str,
+    want: Option<&str>,
+) -> Result<bool, AllocError> {
+    match (read(alloc, form, gate, raw)?, want) {
+        (Some(got), Some(want)) => Ok(got.as_str() == want && is_fixed(alloc, form, gate, want)?),
+        (None, None) => Ok(true),
+        _ => Ok(false),
+    }
+}
+
+fn is_fixed<F: UriTest>(
+    alloc: Global,
+    form: ValueForm,
+    gate: &UriGate<F>,
+    value: &str,
+) -> Result<bool, AllocError> {
+    match read(alloc, form, gate, value)? {
+        Some(again) => Ok(again.as_str() == value),
+        None => Ok(false),
+    }
+}
+
+/// The first row that fails, by what it shows.
+fn failing(
+    alloc: Global,
+    form: ValueForm,
+    rows: &[Row],
+) -> Result<Option<&'static str>, AllocError> {
+    match (rule(alloc)?, rule(alloc)?) {
+        (Some(own), Some(kept)) => {
+            first_other(alloc, kept, |uri: &Uri| own.admits(uri), form, rows)
+        }
+        _ => Ok(Some("no rule")),
+    }
+}
+
+const fn length(signed: bool, percent: bool, keywords: Keywords) -> WordForm {
+    WordForm::Length {
+        signed,
+        percent,
+        keywords,
+    }
+}
+
+#[test]
+fn reads_colors(rt: HostRuntime) -> Result<(), Fail> {
+    let alloc = rt.alloc();
+    let color = ValueForm::Word(WordForm::Color { transparent: false });
+    let background = ValueForm::Word(WordForm::Color { transparent: true });
+    assert_eq!(rt; failing(alloc, color, &COLORS)?, None);
+    assert_eq!(rt; failing(alloc, background, &BACKGROUNDS)?, None);
+    Ok(())
+}
+
+#[test]
+fn reads_keywords(rt: HostRuntime) -> Result<(), Fail> {
+    let alloc = rt.alloc();
+    let float = ValueForm::Word(WordForm::Keyword(Keywords::Float));
+    let weight = ValueForm::Word(WordForm::Keyword(Keywords::FontWeight));
+    assert_eq!(rt; failing(alloc, float, &FLOATS)?, None);
+    assert_eq!(rt; failing(alloc, weight, &WEIGHTS)?, None);
+    Ok(())
+}
+
+#[test]
+fn reads_lengths(rt: HostRuntime) -> Result<(), Fail> {
+    let alloc = rt.alloc();
+    let width = ValueForm::Word(length(false, true, Keywords::Auto));
+    let indent = ValueForm::Word(length(true, true, Keywords::Empty));
+    let spacing = ValueForm::Word(length(true, false, Keywords::Normal));
+    assert_eq!(rt; failing(alloc, width, &WIDTHS)?, None);
+    assert_eq!(rt; failing(alloc, indent, &INDENTS)?, None);
+    assert_eq!(rt; failing(alloc, spacing, &SPACINGS)?, None);
+    Ok(())
+}
+
+#[test]
+fn reads_line_heights(rt: HostRuntime) -> Result<(), Fail> {
+    let alloc = rt.alloc();
+    let form = ValueForm::Word(WordForm::LineHeight);
+    assert_eq!(rt; failing(alloc, form, &LINE_HEIGHTS)?, None);
+    Ok(())
+}
+
+#[test]
+fn reads_families(rt: HostRuntime) -> Result<(), Fail> {
+    let alloc = rt.alloc();
+    assert_eq!(rt; failing(alloc, ValueForm::Families, &FAMILIES)?, None);
+    Ok(())
+}
+
+#[test]
+fn reads_one_to_four_words(rt: HostRuntime) -> Result<(), Fail> {
+    let alloc = rt.alloc();
+    let margin = ValueForm::Words(length(true, true, Keywords::Auto));
+    let color = ValueForm::Words(WordForm::Color { transparent: true });
+    assert_eq!(rt; failing(alloc, margin, &MARGINS)?, None);
+    assert_eq!(rt; failing(alloc, color, &BORDER_COLORS)?, None);
+    Ok(())
+}
+
+#[test]
+fn reads_borders(rt: HostRuntime) -> Result<(), Fail> {
+    let alloc = rt.alloc();
+    assert_eq!(rt; failing(alloc, ValueForm::Border, &BORDERS)?, None);
+    Ok(())
+}
+
+#[test]
+fn reads_decorations(rt: HostRuntime) -> Result<(), Fail> {
+    let alloc = rt.alloc();
+    assert_eq!(rt; failing(alloc, ValueForm::Decoration, &DECORATIONS)?, None);
+    Ok(())
+}
+
+#[test]
+fn reads_images(rt: HostRuntime) -> Result<(), Fail> {
+    let alloc = rt.alloc();
+    assert_eq!(rt; failing(alloc, ValueForm::Image, &IMAGES)?, None);
+    Ok(())
+}
+
+/// A set and its words, each with a space behind it.
+type Set = (Keywords, &'static str);
+
+static SETS: [Set; 27] = [
+    (Keywords::Empty, ""),
+    (Keywords::Inherit, "inherit"),
+    (Keywords::NoneAlone, "none"),
+    (Keywords::Auto, "auto"),
+    (Keywords::Normal, "normal"),
+    (Keywords::Attachment, "scroll fixed"),
+    (Keywords::Repeat, "repeat repeat-x repeat-y no-repeat"),
+    (Keywords::Collapse, "collapse separate"),
+    (Keywords::LineWidth, "thin medium thick"),
+    (
+        Keywords::LineStyle,
+        "none hidden dotted dashed solid double groove ridge inset outset",
+    ),
+    (Keywords::CaptionSide, "top bottom"),
+    (Keywords::Clear, "none left right both"),
+    (Keywords::Float, "left right none"),
+    (
+        Keywords::FontSize,
+        "xx-small x-small small medium large x-large xx-large smaller larger",
+    ),
+    (Keywords::FontStyle, "normal italic oblique"),
+    (Keywords::FontVariant, "normal small-caps"),
+    (
+        Keywords::FontWeight,
+        "normal bold bolder lighter 100 200 300 400 500 600 700 800 900",
+    ),
+    (Keywords::ListPosition, "inside outside"),
+    (
+        Keywords::ListType,
+        "disc circle square decimal decimal-leading-zero lower-roman upper-roman lower-greek lower-latin upper-latin armenian georgian lower-alpha upper-alpha none",
+    ),
+    (Keywords::TableLayout, "auto fixed"),
+    (Keywords::TextAlign, "left right center justify"),
+    (
+        Keywords::TextTransform,
+        "capitalize uppercase lowercase none",
+    ),
+    (
+        Keywords::VerticalAlign,
+        "baseline sub super top text-top middle bottom text-bottom",
+    ),
+    (Keywords::WhiteSpace, "normal pre nowrap pre-wrap pre-line"),
+    (Keywords::Underline, "underline"),
+    (Keywords::Overline, "overline"),
+    (Keywords::LineThrough, "line-through"),
+];
+
+/// Whether the set has each of the words, and as many as they are.
+fn has_all(alloc: Global, keywords: Keywords, text: &str) -> Result<bool, AllocError> {
+    let words = pur_csstok::split_words(alloc, text)?;
+    for word in &words {
+        if keywords::read_keyword(alloc, keywords, word.as_str())?.is_none() {
+            return Ok(false);
+        }
+    }
+    Ok(keywords::words_in(keywords).len() == words.len())
+}
+
+#[test]
+fn knows_the_words(rt: HostRuntime) -> Result<(), Fail> {
+    let alloc = rt.alloc();
+    for (keywords, words) in &SETS {
+        assert!(rt; has_all(alloc, *keywords, words)?, "{words}");
+    }
+    Ok(())
+}
