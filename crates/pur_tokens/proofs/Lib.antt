@@ -3,3 +3,4 @@ pub mod AttributeLaws
 pub mod StorageLaws
 pub mod IndexLaws
 pub mod JoiningLaws
+pub mod StyleLaws

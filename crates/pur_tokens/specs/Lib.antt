@@ -4,4 +4,6 @@ pub mod Pairs
 pub mod Tokens
 pub mod Joining
 pub mod Characters
+pub mod Styles
+pub mod Pictures
 pub mod Private

@@ -11,6 +11,7 @@ mod laws;
 mod pairs_in_order;
 mod stored_pair;
 mod stored_pairs;
+mod styles;
 #[cfg(test)]
 mod tests;
 mod tokens;
@@ -19,4 +20,5 @@ pub use attribute_list::AttrList;
 pub use joiner::Joiner;
 pub use laws::{joined_have_no_neighbours, joining_keeps_texts, joining_settles};
 pub use stored_pair::Pair;
+pub use styles::put_style;
 pub use tokens::{Tag, Token};

@@ -1,6 +1,6 @@
 //! Lists as a reader writes them, and one that grows past what is searched one by one.
 
-use crate::{AttrList, Tag, Token};
+use crate::{AttrList, Tag, Token, put_style};
 use std::alloc::{AllocError, Global};
 use std::mem::size_of;
 
@@ -72,6 +72,26 @@ fn values_are_set_and_removed_by_name(rt: HostRuntime) -> Result<(), AllocError>
             removed,
             "{row}: removed, had {had}"
         );
+    }
+    Ok(())
+}
+
+#[test]
+fn a_style_is_put_in_front(rt: HostRuntime) -> Result<(), AllocError> {
+    let rows = [
+        ("no style yet", "id=x", "a:b;", "id=x style=a:b;"),
+        (
+            "in front of a style",
+            "style=c:d id=x",
+            "a:b;",
+            "style=a:b;c:d id=x",
+        ),
+        ("the empty style", "id=x", "", "id=x"),
+    ];
+    for (row, before, style, after) in rows {
+        let mut list = list_of(rt.alloc(), before)?;
+        put_style(&mut list, String::from_str(rt.alloc(), style)?)?;
+        assert_eq!(rt; text_of(rt.alloc(), &list)?.as_str(), after, "{row}");
     }
     Ok(())
 }

@@ -18,7 +18,7 @@ use Rattle.pur_tree.proofs.EscapeLemmas.{form_of, escape-form}
 use Rattle.pur_tree.proofs.NameLemmas.{is_name_end, is_closer, tag_is_no_closer}
 
 -- what holds of all names of some attributes holds of each of them
-names_pass : (test : List ℕ → Bool) (as' : List Attr) (name : List ℕ) → list_all (λ a. test (attr_name a)) as' ≡ true
+pub names_pass : (test : List ℕ → Bool) (as' : List Attr) (name : List ℕ) → list_all (λ a. test (attr_name a)) as' ≡ true
     → list_any (λ a. bytes_eq (attr_name a) name) as' ≡ true → test name ≡ true
 names_pass test [] name all some = absurd (cc)
 names_pass test (a ∷ as') name all some = go (bytes_eq (attr_name a) name) refl some (names_pass test as' name (and_parts _ _ all).1)
@@ -64,7 +64,7 @@ no_quote_in_form false false true g c h = refl
 no_quote_in_form false false false true c h = refl
 no_quote_in_form false false false false c h = rw h refl
 
-no_quote : (s : List ℕ) → list_any (λ d. d == 34) (escaped_value s) ≡ false
+pub no_quote : (s : List ℕ) → list_any (λ d. d == 34) (escaped_value s) ≡ false
 unfolding escaped_value
 no_quote [] = refl
 no_quote (c ∷ s) =

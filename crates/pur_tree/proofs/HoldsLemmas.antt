@@ -9,8 +9,8 @@ use Rattle.pur_modules.specs.Contents.{is_empty_element}
 use Rattle.pur_tree.specs.Nodes.{PlainElem, Nodes, no_nodes, text_first, elem_first, nodes_append, has_no_nodes, is_sound, level_in}
 use Rattle.pur_tree.specs.Places.{Place, inside, level_limit, fragment}
 use Rattle.pur_tree.specs.Forests.{IsForest}
-use Rattle.pur_tree.specs.Properties.{Property, Holds, levels, soundness, spellable}
-use Rattle.pur_tree.specs.Spelling.{are_spellable, is_spellable}
+use Rattle.pur_tree.specs.Properties.{Property, Holds, levels, soundness, spellable, allowed}
+use Rattle.pur_tree.specs.Spelling.{are_spellable, is_spellable, has_allowed_values, has_allowed_characters}
 use Rattle.pur_tree.specs.Walks.{walk, text_joined, joined_nodes}
 use Rattle.pur_tree.proofs.WalkLemmas.{level-joined_nodes}
 
@@ -104,6 +104,22 @@ pub test-spellable : (f : Nodes) → Holds spellable tt f → is_spellable f ≡
 test-spellable no_nodes h = refl
 test-spellable (text_first s f) h = and_from _ _ h.0 (test-spellable f h.1)
 test-spellable (elem_first e kids f) h = and_from _ _ h.0 (and_from _ _ (test-spellable kids h.1) (test-spellable f h.2))
+
+pub allowed-test : (f : Nodes) → has_allowed_characters f ≡ true → Holds allowed tt f
+allowed-test no_nodes h = tt
+allowed-test (text_first s f) h =
+    ((and_parts _ (has_allowed_characters f) h).0, allowed-test f (and_parts (list_all is_allowed s) _ h).1)
+allowed-test (elem_first e kids f) h =
+    let b = (and_parts (has_allowed_values e.attrs) (has_allowed_characters kids && has_allowed_characters f) h).1 in (
+      (and_parts (has_allowed_values e.attrs) (has_allowed_characters kids && has_allowed_characters f) h).0,
+      allowed-test kids (and_parts (has_allowed_characters kids) (has_allowed_characters f) b).0,
+      allowed-test f (and_parts (has_allowed_characters kids) (has_allowed_characters f) b).1,
+    )
+
+pub test-allowed : (f : Nodes) → Holds allowed tt f → has_allowed_characters f ≡ true
+test-allowed no_nodes h = refl
+test-allowed (text_first s f) h = and_from _ _ h.0 (test-allowed f h.1)
+test-allowed (elem_first e kids f) h = and_from _ _ h.0 (and_from _ _ (test-allowed kids h.1) (test-allowed f h.2))
 
 longer : (s t : List ℕ) → 0 < length s → 0 < length (s ++ t)
 longer s t h = omega (arith, h, length-append s t)

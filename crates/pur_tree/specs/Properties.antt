@@ -1,16 +1,19 @@
 -- Properties of nodes at every depth.
-use Rattle.std.specs.Prelude.{List, ◌∷◌, ℕ, ◌≡◌, ◌≤◌, ◌<◌, ◌||◌, Bool, true, false, length}
+use Rattle.std.specs.Prelude.{List, ◌∷◌, ℕ, ◌≡◌, ◌≤◌, ◌<◌, ◌||◌, not, Bool, true, false, length}
 use Rattle.std.specs.List.{list_all}
 use Rattle.pur_text.specs.Characters.{is_allowed, is_blank}
 use Rattle.pur_names.specs.declared.elements.Element.{Element}
+use Rattle.pur_names.specs.declared.elements.Element.TheVariants.{Img}
+use Rattle.pur_names.specs.Elements.{same_element}
 use Rattle.pur_modules.specs.declared.kinds.Child.TheVariants.{Text, Elem}
 use Rattle.pur_modules.specs.declared.kinds.Content.{Content}
 use Rattle.pur_modules.specs.declared.kinds.Doctype.{Doctype}
 use Rattle.pur_modules.specs.Contents.{content_held, is_empty_element, is_excluded_in}
 use Rattle.pur_modules.specs.Expressions.{is_letter}
+use Rattle.pur_tokens.specs.Attributes.{Attribute}
 use Rattle.pur_tree.specs.Nodes.{PlainElem, Nodes, no_nodes, text_first, elem_first}
 use Rattle.pur_tree.specs.Places as places
-use Rattle.pur_tree.specs.Spelling.{are_spellable}
+use Rattle.pur_tree.specs.Spelling.{are_spellable, has_allowed_values}
 
 -- what is asked of each text and of each element where they stand, and where the children of an element of this name stand
 pub record Property : Type 1 where
@@ -52,12 +55,34 @@ spellable = record {
   inside = λ at e. tt;
 }
 
+-- texts and values have allowed characters alone
+abbrev pub allowed : Property
+allowed = record {
+  Where = Unit {0};
+  text = λ at s. list_all is_allowed s ≡ true;
+  elem = λ at e. has_allowed_values e.attrs ≡ true;
+  inside = λ at e. at;
+}
+
 -- all elements are permitted
 abbrev pub permitted : (Element → Bool) → Property
 permitted permits = record {
   Where = Unit {0};
   text = λ at s. Unit {0};
   elem = λ at e. permits e.name ≡ true;
+  inside = λ at e. at;
+}
+
+-- an element is no `img`, or its attributes pass the test
+abbrev pub is_good_picture : (List Attribute → Bool) → PlainElem → Bool
+is_good_picture test e = not (same_element e.name Img) || test e.attrs
+
+-- the attributes of each picture pass the test
+abbrev pub pictures : (List Attribute → Bool) → Property
+pictures test = record {
+  Where = Unit {0};
+  text = λ at s. Unit {0};
+  elem = λ at e. is_good_picture test e ≡ true;
   inside = λ at e. at;
 }
 

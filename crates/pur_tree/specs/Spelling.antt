@@ -65,6 +65,23 @@ is_spellable no_nodes = true
 is_spellable (text_first s rest) = list_all is_allowed s && is_spellable rest
 is_spellable (elem_first e kids rest) = are_spellable e.attrs && (is_spellable kids && is_spellable rest)
 
+-- the values have allowed characters alone
+abbrev pub has_allowed_values : List Attribute → Bool
+has_allowed_values pairs = list_all (λ pair. list_all is_allowed pair.1) pairs
+
+-- texts have allowed characters alone, and so have the values of all attributes
+abbrev pub has_allowed_characters : Nodes → Bool
+has_allowed_characters no_nodes = true
+has_allowed_characters (text_first s rest) = list_all is_allowed s && has_allowed_characters rest
+has_allowed_characters (elem_first e kids rest) =
+    has_allowed_values e.attrs && (has_allowed_characters kids && has_allowed_characters rest)
+
+-- no two attributes of an element have one name
+abbrev pub has_distinct_names : Nodes → Bool
+has_distinct_names no_nodes = true
+has_distinct_names (text_first s rest) = has_distinct_names rest
+has_distinct_names (elem_first e kids rest) = is_distinct e.attrs && (has_distinct_names kids && has_distinct_names rest)
+
 -- the nodes are spelled by the text: a text isn't empty, has allowed characters alone and no text beside it, and the
 -- attributes of an element may stand in a tag
 pub data Spells : Nodes → List ℕ → Type 0 where

@@ -9,6 +9,7 @@ ghost use Rattle.pur_tree.specs.Tokens.{opening_of, closing_of, text_token, join
 
 use crate::forest::Forest;
 use crate::node::{Elem, Node};
+use crate::room::without_slack;
 use pur_names::Element;
 use pur_tokens::AttrList;
 use std::alloc::{AllocError, Global};
@@ -181,14 +182,6 @@ fn push_text(nodes: &mut Vec<Node>, text: String) -> Result<(), AllocError>
     make_room(nodes)?;
     nodes.push(Node::Text(text))?;
     Ok(())
-}
-
-// The same nodes, without room for more of them: a tree keeps what it has until it is written.
-fn without_slack(mut nodes: Vec<Node>) -> Vec<Node>
-    ensures { result.items ≡ nodes.items }
-{
-    nodes.shrink_to_fit();
-    nodes
 }
 
 // Makes room for one node alone where there is none, since most elements that have a text have nothing else; a `Vec` that

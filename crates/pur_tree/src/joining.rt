@@ -8,6 +8,7 @@ ghost use Rattle.pur_tree.specs.Nodes.{PlainElem, Nodes, no_nodes, text_first, e
 ghost use Rattle.pur_tree.specs.Walks.{text_joined, joined_nodes};
 
 use crate::node::{Elem, Node};
+use crate::room::{with_room, without_slack};
 use std::alloc::{AllocError, Global};
 use std::mem;
 
@@ -54,8 +55,8 @@ impl Joining {
     }
 }
 
-/// Puts a text behind nodes, as a node of its own.
-pub(crate) fn push_text_node(out: &mut Vec<Node>, text: String) -> Result<(), AllocError>
+/// Puts a text behind nodes, as a node of its own. The error is want of memory.
+pub fn push_text_node(out: &mut Vec<Node>, text: String) -> Result<(), AllocError>
     ensures { OnOk result ((more : Nodes) → nodes_append (nodes_of out.new.items) more
         ≡ nodes_append (nodes_of out.old.items) (text_first (chars (string_bytes text)) more)) }
 {
@@ -63,8 +64,8 @@ pub(crate) fn push_text_node(out: &mut Vec<Node>, text: String) -> Result<(), Al
     Ok(())
 }
 
-/// Puts an element behind nodes.
-fn push_elem(out: &mut Vec<Node>, elem: Elem) -> Result<(), AllocError>
+/// Puts an element behind nodes. The error is want of memory.
+pub fn push_elem(out: &mut Vec<Node>, elem: Elem) -> Result<(), AllocError>
     ensures { OnOk result ((more : Nodes) → nodes_append (nodes_of out.new.items) more
         ≡ nodes_append (nodes_of out.old.items) (elem_first (plain_elem elem.name elem.attrs) (nodes_of elem.children.items) more)) }
 {
@@ -77,7 +78,7 @@ pub(crate) fn join_nodes(alloc: Global, nodes: Vec<Node>) -> Result<Vec<Node>, A
     ensures { IfOk result (λ out. nodes_of out.items ≡ joined_nodes (nodes_of nodes.items)) }
 {
     let mut joining = Joining {
-        done: Vec::new(alloc),
+        done: with_room(alloc, nodes.len())?,
         run: String::new(alloc),
         in_run: false,
     };
@@ -103,7 +104,7 @@ pub(crate) fn join_nodes(alloc: Global, nodes: Vec<Node>) -> Result<Vec<Node>, A
         }
     }
     joining.end_run(alloc)?;
-    Ok(joining.done)
+    Ok(without_slack(joining.done))
 }
 
 /// Whether no texts are neighbours, at any depth.

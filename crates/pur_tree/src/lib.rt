@@ -14,12 +14,14 @@ mod joining;
 mod laws;
 mod level;
 mod node;
+mod room;
 #[cfg(test)]
 mod tests;
 mod walking;
 
 pub use builder::Builder;
 pub use forest::Forest;
+pub use joining::{push_elem, push_text_node};
 pub use laws::{
     counts_alike, has_one_tree, has_spelling, has_tree, joins_texts, joins_tokens,
     spelled_as_itself, spells_at_most_one, tables_reach_the_limit, walks_count, walks_go_on,

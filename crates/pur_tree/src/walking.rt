@@ -7,6 +7,7 @@ ghost use Rattle.pur_tree.specs.Walks.{walk};
 
 use crate::joining::push_text_node;
 use crate::node::{Elem, Node};
+use crate::room::{with_room, without_slack};
 use std::alloc::{AllocError, Global};
 
 /// What stands in the place of an element. It is asked for each element after its children were gone through.
@@ -27,7 +28,7 @@ pub fn walk_nodes<R: Rule>(
 ) -> Result<Vec<Node>, AllocError>
     ensures { IfOk result (λ out. nodes_of out.items ≡ walk (R.made rule.now) (nodes_of nodes.items)) }
 {
-    let mut out = Vec::new(alloc);
+    let mut out = with_room(alloc, nodes.len())?;
     for node in nodes {
         match node {
             Node::Text(text) => push_text_node(&mut out, text)?,
@@ -50,5 +51,5 @@ pub fn walk_nodes<R: Rule>(
             }
         }
     }
-    Ok(out)
+    Ok(without_slack(out))
 }

@@ -9,8 +9,8 @@ use Rattle.pur_tree.specs.Walks.{joined_nodes}
 use Rattle.pur_tree.proofs.PushLemmas.{none_left}
 use Rattle.pur_tree.proofs.joining.+join_nodes.Goals as goal
 
-pub loop-node-preserved-in-Continue-1 : goal.loop-node-preserved-in-Continue-1
-loop-node-preserved-in-Continue-1 t c =
+pub loop-node-preserved-in_ok-put_text-in-Text : goal.loop-node-preserved-in_ok-put_text-in-Text
+loop-node-preserved-in_ok-put_text-in-Text t c =
     let rest = nodes_of (into_iter_items c.next.new.self) in
     c.in_ok-put_text-in-Text.ensures (joined_nodes rest)
     ∙ ap (λ f. joining c.loop-node.joining (joined_nodes f)) (sym (ap (λ n. node_before n rest) c.in-Text.is ∙ before_text c.in-Text.text rest))
@@ -31,7 +31,8 @@ returns t c =
     let ended = c.end_run.new.self in
     let over : ended.in_run ≡ false = c.in_ok-end_run.ensures.over in
     let back : joining ended no_nodes ≡ nodes_append (nodes_of ended.done.items) no_nodes = rw over refl in
-    sym (nodes_append-none (nodes_of ended.done.items))
+    ap nodes_of c.without_slack.ensures
+    ∙ sym (nodes_append-none (nodes_of ended.done.items))
     ∙ sym back
     ∙ c.in_ok-end_run.ensures.all
     ∙ ap (λ xs. joining c.loop-node.joining (joined_nodes (nodes_of xs))) (sym (none_left c.loop-node.node-iterator c.in-None.ensures.steps.0))

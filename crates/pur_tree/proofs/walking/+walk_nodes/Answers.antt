@@ -8,8 +8,8 @@ use Rattle.pur_tree.proofs.NodesLemmas.{nodes_append-none}
 use Rattle.pur_tree.proofs.PushLemmas.{none_left}
 use Rattle.pur_tree.proofs.walking.+walk_nodes.Goals as goal
 
-pub loop-node-preserved-in-Continue-1 : goal.loop-node-preserved-in-Continue-1
-loop-node-preserved-in-Continue-1 g t c =
+pub loop-node-preserved-in-Continue-branch-2 : goal.loop-node-preserved-in-Continue-branch-2
+loop-node-preserved-in-Continue-branch-2 g t c =
     let made = g.R.Rule.made c.args.rule.now in
     let done = nodes_of c.loop-node.out.items in
     let rest = nodes_of (into_iter_items c.next.new.self) in
@@ -34,6 +34,7 @@ pub returns : goal.returns
 returns g t c =
     let made = g.R.Rule.made c.args.rule.now in
     let done = nodes_of c.loop-node.out.items in
-    sym (nodes_append-none done)
+    ap nodes_of c.without_slack.ensures
+    ∙ sym (nodes_append-none done)
     ∙ ap (λ xs. nodes_append done (walk made (nodes_of xs))) (sym (none_left c.loop-node.node-iterator c.in-None.ensures.steps.0))
     ∙ c.loop-node.invariant
