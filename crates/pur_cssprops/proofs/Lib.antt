@@ -1,11 +1,17 @@
+pub mod AllowedLaws
 pub mod ApartLaws
 pub mod FamilyLaws
 pub mod FormLaws
+pub mod InnerLaws
+pub mod KeptLemmas
 pub mod KeywordLemmas
 pub mod NumberLemmas
 pub mod OneFormLaws
+pub mod PropertyLemmas
 pub mod ReadingLemmas
 pub mod SequenceLaws
+pub mod ShapeLaws
+pub mod StyleLaws
 pub mod TextLemmas
 pub mod UrlLaws
 pub mod WordLaws

@@ -33,7 +33,7 @@ none_read one other apart (word ∷ words) = go (word_read one word) refl (none_
 
 -- ---- atoms and spaces are in lower case
 
-abbrev is_value_character : ℕ → Bool
+abbrev pub is_value_character : ℕ → Bool
 is_value_character c = is_atom_character c || c == 0x20
 
 character-value : (c : ℕ) → is_atom_character c ≡ true → is_value_character c ≡ true
@@ -45,7 +45,7 @@ value-lowered c is = grind (arith, nat_tests)
 atom-value : (word : List ℕ) → is_atom word ≡ true → list_all is_value_character word ≡ true
 atom-value word is = all-weaker is_atom_character is_value_character character-value word (and_parts _ (list_all is_atom_character word) is).1
 
-spaced_value : (words : List (List ℕ)) → list_all is_atom words ≡ true → list_all is_value_character (spaced words) ≡ true
+pub spaced_value : (words : List (List ℕ)) → list_all is_atom words ≡ true → list_all is_value_character (spaced words) ≡ true
 spaced_value [] all = refl
 spaced_value (word ∷ []) all = atom-value word (and_parts (is_atom word) true all).0
 spaced_value (word ∷ next ∷ words) all =
@@ -98,7 +98,7 @@ module _ (laws : AtomLaws) where
       let is = kept (is_between 1 4 (length words) && length values == length words) (spaced values) out e in
       subst (λ t. str_to_ascii_lowercase t ≡ t) is.1 (spaced-lowered values (readings-atoms form words))
 
-  all_atoms : (first second third : WordForm) (words : List (List ℕ)) → list_all is_atom (readings first words ++ (readings second words ++ readings third words)) ≡ true
+  pub all_atoms : (first second third : WordForm) (words : List (List ℕ)) → list_all is_atom (readings first words ++ (readings second words ++ readings third words)) ≡ true
   all_atoms first second third words =
       let b = readings second words in
       let c = readings third words in

@@ -8,6 +8,7 @@ use Rattle.std.proofs.lemmas.Str.{chars-nil, chars-append, IsUtf8-string_bytes}
 use Rattle.pur_laws.proofs.Lists.{all-weaker, all-append}
 use Rattle.pur_laws.proofs.Texts.{is_ascii, chars_past}
 use Rattle.pur_text.specs.Texts.{text_of}
+use Rattle.pur_csstok.specs.Declarations.{declaration_body}
 use Rattle.pur_csstok.specs.Urls.{url_text}
 use Rattle.pur_uri.specs.Laws.{is_canonical_byte}
 use Rattle.pur_uri.specs.Escapes.{stays_in_query, stays_in_path}
@@ -36,3 +37,14 @@ url-joined text = ap (λ t. codes "url(\"" ++ t) (sym (append_assoc text (0x22 �
 
 pub url-ascii : (text : List ℕ) → list_all is_canonical_byte text ≡ true → list_all is_ascii (url_text text) ≡ true
 url-ascii text all = all-append is_ascii (text ++ 0x22 ∷ []) (0x29 ∷ []) (all-append is_ascii text (0x22 ∷ []) (canonical-ascii text all) refl) refl
+
+-- ---- a declaration
+
+-- a style with one more declaration
+pub declaration-added : (style property value : List ℕ)
+    → (((style ++ property) ++ 0x3A ∷ []) ++ value) ++ 0x3B ∷ [] ≡ style ++ (declaration_body (property, value) ++ 0x3B ∷ [])
+declaration-added style property value =
+    append_assoc ((style ++ property) ++ (0x3A ∷ [])) value (0x3B ∷ [])
+    ∙ append_assoc (style ++ property) (0x3A ∷ []) (value ++ (0x3B ∷ []))
+    ∙ append_assoc style property (0x3A ∷ (value ++ (0x3B ∷ [])))
+    ∙ ap (λ t. style ++ t) (sym (append_assoc property (0x3A ∷ value) (0x3B ∷ [])))

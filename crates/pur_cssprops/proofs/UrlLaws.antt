@@ -1,24 +1,20 @@
 -- What the form of URLs reads is read as itself.
-use Rattle.std.proofs.Common.{◌≡◌, ℕ, ◌-◌, Bool, true, false, not, cond, List, [], ◌∷◌, length, take, codes, Some, None, refl, sym, ap, subst, ◌∙◌, arith, IsUtf8, encode_utf8_all, ⊎_elim}
-use Rattle.std.specs.Prelude.{Option, ◌==◌, slice_index}
-use Rattle.std.specs.Char.{to_ascii_lowercase}
-use Rattle.std.specs.List.{list_all, list_any, prefix_len}
-use Rattle.std.specs.Option.{option_or, option_and_then, option_map_or}
+use Rattle.std.proofs.Common.{◌≡◌, ℕ, Bool, true, false, not, List, [], ◌∷◌, Some, None, refl, sym, ap, ◌∙◌, arith, IsUtf8, encode_utf8_all, ⊎_elim}
+use Rattle.std.specs.Prelude.{◌==◌, slice_index}
+use Rattle.std.specs.List.{list_all}
+use Rattle.std.specs.Option.{option_or, option_and_then}
 use Rattle.std.specs.Str.{chars, str_to_ascii_lowercase}
 use Rattle.std.proofs.lemmas.Bool.{cases_Bool, cond-true, cond-false, and_parts, and_from}
 use Rattle.std.proofs.lemmas.Bool.Decides.{nat_tests}
 use Rattle.std.proofs.lemmas.Option.{option_and_then_some}
 use Rattle.std.proofs.lemmas.Str.{scalars-chars}
 use lib.Utf8.{scalar, scalars}
-use Rattle.pur_laws.proofs.Lists.{all-weaker, all-take, all-drop}
+use Rattle.pur_laws.proofs.Lists.{all-weaker}
 use Rattle.pur_laws.proofs.Tests.{kept, all-named}
 use Rattle.pur_laws.proofs.Texts.{encodes_ascii}
-use Rattle.pur_text.specs.Characters.{is_space}
-use Rattle.pur_text.specs.Trimming.{trimmed, without_leading_space}
 use Rattle.pur_names.specs.declared.schemes.SchemeName.{SchemeName}
-use Rattle.pur_csstok.specs.Ends.{behind, before, between, behind_all, argument_of}
 use Rattle.pur_csstok.specs.Names.{is_one_of}
-use Rattle.pur_csstok.specs.Urls.{breaks_quotes, breaks_bare, without, argument_read, url_read, url_text}
+use Rattle.pur_csstok.specs.Urls.{breaks_quotes, url_read, url_text}
 use Rattle.pur_uri.specs.Escapes.{stays_in_query, stays_in_path}
 use Rattle.pur_uri.specs.Laws.{is_canonical_byte}
 use Rattle.pur_uri.specs.Uris.{PlainUri, uri_of, uri_text}
@@ -29,6 +25,7 @@ use Rattle.pur_cssprops.specs.Forms.{url_with, embedded, image_read}
 use Rattle.pur_cssprops.specs.Keywords.{words_in, keyword_read}
 use Rattle.pur_cssprops.specs.declared.keywords.Keywords.{Keywords}
 use Rattle.pur_cssprops.specs.declared.keywords.Keywords.TheVariants.{NoneAlone}
+use Rattle.pur_cssprops.proofs.InnerLaws.{all-inherited, url-inner}
 use Rattle.pur_cssprops.proofs.TextLemmas.{canonical-ascii}
 use Rattle.pur_cssprops.proofs.WordLaws.{keyword-out, keyword-again, or_either}
 
@@ -38,73 +35,8 @@ pub record UrlLaws : Type 0 where
   pub settles : (raw : List ℕ) (uri : PlainUri) → IsUtf8 raw → uri_of raw ≡ Some uri → uri_of (uri_text uri) ≡ Some uri
   pub canonical : (raw : List ℕ) (uri : PlainUri) → uri_of raw ≡ Some uri → list_all is_canonical_byte (uri_text uri) ≡ true
 
--- ---- what all characters of a text pass, those of its parts pass
-
-module _ (test : ℕ → Bool) where
-  abbrev Passes : List ℕ → Type 0
-  Passes text = list_all test text ≡ true
-
-  behind-all : (first : ℕ) (text out : List ℕ) → Passes text → behind first text ≡ Some out → Passes out
-  behind-all first [] out all e = absurd cc
-  behind-all first (c ∷ text) out all e =
-      let is = kept (to_ascii_lowercase c == first) text out e in
-      subst Passes is.1 (and_parts (test c) (list_all test text) all).1
-
-  before-all : (last : ℕ) (text out : List ℕ) → Passes text → before last text ≡ Some out → Passes out
-  before-all last text out all e = subst Passes (kept _ (take (length text - 1) text) out e).1 (all-take test (length text - 1) text all)
-
-  front-all : (front text out : List ℕ) → Passes text → behind_all front text ≡ Some out → Passes out
-  front-all [] text out all e = let same : text ≡ out = cc in subst Passes same all
-  front-all (first ∷ front) text out all e =
-      option_and_then_some (behind_all front) (behind first text) out e
-      (λ rest is more. front-all front rest out (behind-all first text rest all is) more)
-
-  argument-all : (front text out : List ℕ) → Passes text → argument_of front text ≡ Some out → Passes out
-  argument-all front text out all e =
-      option_and_then_some (before 0x29) (behind_all front text) out e
-      (λ rest is more. before-all 0x29 rest out (front-all front text rest all is) more)
-
-  between-all : (quote : ℕ) (text out : List ℕ) → Passes text → between quote text ≡ Some out → Passes out
-  between-all quote text out all e =
-      option_and_then_some (before quote) (behind quote text) out e
-      (λ rest is more. before-all quote rest out (behind-all quote text rest all is) more)
-
-  trimmed-all : (text : List ℕ) → Passes text → Passes (trimmed text)
-  unfolding trimmed
-  trimmed-all text all = all-take test _ (without_leading_space text) (all-drop test (prefix_len is_space text) text all)
-
-  without-all : (breaks : ℕ → Bool) (text out : List ℕ) → Passes text → without breaks text ≡ Some out → Passes out
-  without-all breaks text out all e = go (list_any breaks text) e where
-    go : (broken : Bool) → cond broken None (Some text) ≡ Some out → Passes out
-    go true is = absurd cc
-    go false is = let same : text ≡ out = cc in subst Passes same all
-
-  -- one of two ways to read
-  either-all : (read : List ℕ → Option (List ℕ)) (inner other : Option (List ℕ)) (out : List ℕ)
-      → ((text : List ℕ) → inner ≡ Some text → read text ≡ Some out → Passes out) → (other ≡ Some out → Passes out)
-      → option_map_or read inner other ≡ Some out → Passes out
-  either-all read None other out one two e = two e
-  either-all read (Some text) other out one two e = one text refl e
-
-  read-all : (text out : List ℕ) → Passes text → argument_read text ≡ Some out → Passes out
-  unfolding argument_read
-  read-all text out all e =
-      let bare = without breaks_bare text in
-      either-all (without (breaks_quotes 0x22)) (between 0x22 text) (option_map_or (without (breaks_quotes 0x27)) (between 0x27 text) bare) out
-      (λ inner is more. without-all (breaks_quotes 0x22) inner out (between-all 0x22 text inner all is) more)
-      (either-all (without (breaks_quotes 0x27)) (between 0x27 text) bare out
-      (λ inner is more. without-all (breaks_quotes 0x27) inner out (between-all 0x27 text inner all is) more)
-      (λ is. without-all breaks_bare text out all is))
-      e
-
-  pub url-all : (text out : List ℕ) → Passes text → url_read text ≡ Some out → Passes out
-  unfolding url_read
-  url-all text out all e =
-      option_and_then_some (λ argument. argument_read (trimmed argument)) (argument_of (codes "url(") text) out e
-      (λ argument is more. read-all (trimmed argument) out (trimmed-all argument (argument-all (codes "url(") text argument all is)) more)
-
 -- characters are encoded as text
-scalars_all : (cs : List ℕ) → list_all scalar cs ≡ true → scalars cs ≡ true
+pub scalars_all : (cs : List ℕ) → list_all scalar cs ≡ true → scalars cs ≡ true
 scalars_all [] all = refl
 scalars_all (c ∷ cs) all = let both = and_parts (scalar c) (list_all scalar cs) all in and_from _ _ both.0 (scalars_all cs both.1)
 
@@ -112,7 +44,7 @@ all_scalars : (cs : List ℕ) → scalars cs ≡ true → list_all scalar cs ≡
 all_scalars [] all = refl
 all_scalars (c ∷ cs) all = let both = and_parts (scalar c) (scalars cs) all in and_from _ _ both.0 (all_scalars cs both.1)
 
-encoded : (cs : List ℕ) → list_all scalar cs ≡ true → IsUtf8 (encode_utf8_all cs)
+pub encoded : (cs : List ℕ) → list_all scalar cs ≡ true → IsUtf8 (encode_utf8_all cs)
 encoded cs all = (cs, (scalars_all cs all, refl))
 
 -- ---- the form
@@ -174,7 +106,7 @@ module _ (laws : UrlLaws) (permitted : SchemeName → Bool) (rule : PlainHostRul
       or_either (keyword_read NoneAlone (chars raw)) (option_and_then (embedded permitted rule) (url_read (chars raw))) out e
       (λ here. word (keyword-out NoneAlone (chars raw) out here))
       (λ behind. option_and_then_some (embedded permitted rule) (url_read (chars raw)) out behind
-      (λ inner found more. url (url_found inner out (url-all scalar (chars raw) inner (all_scalars (chars raw) (scalars-chars raw is)) found) more)))
+      (λ inner found more. url (url_found inner out (url-inner (λ text. list_all scalar text ≡ true) (all-inherited scalar) (chars raw) inner (all_scalars (chars raw) (scalars-chars raw is)) found) more)))
 
   pub image-again : (raw out : List ℕ) → IsUtf8 raw → image_read permitted rule (chars raw) ≡ Some out → image_read permitted rule out ≡ Some out
   image-again raw out is e = image-is raw out is e (none_again out) (url_again out)

@@ -1,9 +1,13 @@
--- What holds of all forms of values.
-use Rattle.std.specs.Prelude.{◌≡◌, ℕ, Bool, List, Some, IsUtf8}
+-- What holds of all forms of values, and of styles.
+use Rattle.std.specs.Prelude.{◌≡◌, ℕ, Bool, List, Some, IsTrue, IsUtf8}
+use Rattle.std.specs.List.{list_all}
 use Rattle.std.specs.Str.{chars}
 use Rattle.pur_names.specs.declared.schemes.SchemeName.{SchemeName}
+use Rattle.pur_text.specs.Characters.{is_allowed}
+use Rattle.pur_settings.specs.Rules.{Rules}
 use Rattle.pur_urigate.specs.HostRules.{PlainHostRule}
 use Rattle.pur_cssprops.specs.Forms.{word_read, value_read}
+use Rattle.pur_cssprops.specs.Styles.{style_read}
 use Rattle.pur_cssprops.specs.declared.forms.ValueForm.{ValueForm}
 use Rattle.pur_cssprops.specs.declared.forms.WordForm.{WordForm}
 
@@ -16,3 +20,15 @@ ReadAsItself =
 -- no text has both forms
 abbrev pub NeverBoth : WordForm → WordForm → Type 0
 NeverBoth one other = (text first second : List ℕ) → word_read one text ≡ Some first → word_read other text ≡ Some second → ⊥
+
+-- what a style of allowed characters is read as is read as itself
+abbrev pub StyleReadAsItself : Type 0
+StyleReadAsItself =
+    (rules : Rules) (rule : PlainHostRule) (raw output : List ℕ) → IsTrue (list_all is_allowed raw)
+    → style_read rules rule raw ≡ Some output → style_read rules rule output ≡ Some output
+
+-- what a style is read as has allowed characters alone
+abbrev pub StyleAllowed : Type 0
+StyleAllowed =
+    (rules : Rules) (rule : PlainHostRule) (raw output : List ℕ) → style_read rules rule raw ≡ Some output
+    → IsTrue (list_all is_allowed output)

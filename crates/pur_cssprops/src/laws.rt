@@ -1,12 +1,13 @@
 //! What holds of all forms. Each law is the contract of a call that does nothing.
 ghost use Rattle.pur_cssprops.specs.Forms.{width, style, color, underline, overline, line_through};
-ghost use Rattle.pur_cssprops.specs.Laws.{NeverBoth, ReadAsItself};
+ghost use Rattle.pur_cssprops.specs.Laws.{NeverBoth, ReadAsItself, StyleAllowed, StyleReadAsItself};
 
 use pur_csstok::{
-    atom_is_word, color_is_read, colors_are_digits, families_are_read, length_is_read,
-    number_is_read, url_is_read, values_are_atoms, words_are_read,
+    atom_is_word, atoms_are_clean, color_is_read, colors_are_digits, declarations_are_read,
+    families_are_clean, families_are_read, length_is_read, number_is_read, url_is_read,
+    urls_are_clean, values_are_atoms, words_are_read,
 };
-use pur_uri::{reading_settles, text_is_canonical};
+use pur_uri::{no_comment_appears, reading_settles, text_is_canonical};
 
 /// What a value is read as is read as itself, for each form; so canonical values stay as they are.
 pub fn canonical_is_read_as_itself()
@@ -35,3 +36,37 @@ pub fn words_have_one_form()
     ensures under_or_through { NeverBoth underline line_through }
     ensures over_or_through { NeverBoth overline line_through }
 {}
+
+/// What a style of allowed characters is read as is read as itself; so canonical styles stay as they are.
+pub fn styles_are_read_as_themselves()
+    ensures { StyleReadAsItself }
+{
+    canonical_is_read_as_itself();
+    number_is_read();
+    length_is_read();
+    color_is_read();
+    colors_are_digits();
+    values_are_atoms();
+    atom_is_word();
+    words_are_read();
+    atoms_are_clean();
+    families_are_clean();
+    urls_are_clean();
+    declarations_are_read();
+    text_is_canonical();
+    no_comment_appears();
+}
+
+/// What a style is read as has allowed characters alone, whatever the text has.
+pub fn styles_are_allowed()
+    ensures { StyleAllowed }
+{
+    number_is_read();
+    length_is_read();
+    color_is_read();
+    colors_are_digits();
+    values_are_atoms();
+    atom_is_word();
+    words_are_read();
+    text_is_canonical();
+}

@@ -1,13 +1,15 @@
-//! The forms that the values of a style have (CSS 2.1), each with one canonical text: a reader for each form gives that
-//! text, or none. What a form gives is read as itself.
+//! Styles (CSS 2.1): the 55 properties that one may set, the form of the values of each, and the one text of a style. A
+//! reader for each form gives a value's one text, or none. What a style is read as is read as itself.
 #![tactic(auto)]
 
 mod forms;
 mod images;
 mod keywords;
 mod laws;
+mod properties;
 mod reading;
 mod sequences;
+mod styles;
 #[cfg(test)]
 mod tests;
 mod texts;
@@ -15,5 +17,10 @@ mod words;
 
 pub use forms::{ValueForm, WordForm};
 pub use keywords::Keywords;
-pub use laws::{canonical_is_read_as_itself, words_have_one_form};
+pub use laws::{
+    canonical_is_read_as_itself, styles_are_allowed, styles_are_read_as_themselves,
+    words_have_one_form,
+};
+pub use properties::form_of;
 pub use reading::read_value;
+pub use styles::canon_style;

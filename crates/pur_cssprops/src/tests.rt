@@ -5,6 +5,7 @@ ghost use Rattle.pur_urigate.specs.HostRules.{in_order};
 
 use super::*;
 use pur_names::SchemeName;
+use pur_settings::Settings;
 use pur_text::is_host;
 use pur_uri::Uri;
 use pur_urigate::{HostRule, UriGate, UriTest};
@@ -419,5 +420,421 @@ fn knows_the_words(rt: HostRuntime) -> Result<(), Fail> {
     for (keywords, words) in &SETS {
         assert!(rt; has_all(alloc, *keywords, words)?, "{words}");
     }
+    Ok(())
+}
+
+/// A property, a value, what it is written as, and a value that isn't read.
+type PropertyRow = (&'static str, &'static str, &'static str, &'static str);
+
+static PROPERTIES: [PropertyRow; 55] = [
+    ("background-attachment", "Fixed", "fixed", "local"),
+    ("background-color", "Transparent", "transparent", "none"),
+    (
+        "background-image",
+        "URL(a.png)",
+        "url(\"a.png\")",
+        "url(mailto:a)",
+    ),
+    (
+        "background-repeat",
+        "No-Repeat",
+        "no-repeat",
+        "repeat repeat",
+    ),
+    (
+        "border",
+        "red 1PX Solid",
+        "1px solid #ff0000",
+        "1px transparent",
+    ),
+    ("border-bottom-color", "#F00", "#ff0000", "#f0"),
+    ("border-bottom-style", "DASHED", "dashed", "wavy"),
+    ("border-bottom-width", "Thick", "thick", "1%"),
+    ("border-collapse", "Separate", "separate", "none"),
+    (
+        "border-color",
+        "red Transparent",
+        "#ff0000 transparent",
+        "red none",
+    ),
+    ("border-left-color", "transparent", "transparent", "thin"),
+    ("border-left-style", "inset", "inset", "thin"),
+    ("border-left-width", "0.50em", "0.5em", "-1px"),
+    (
+        "border-right-color",
+        "rgb(0,128,255)",
+        "#0080ff",
+        "rgb(0,128)",
+    ),
+    ("border-right-style", "None", "none", "red"),
+    ("border-right-width", "medium", "medium", "auto"),
+    (
+        "border-style",
+        "solid none solid none",
+        "solid none solid none",
+        "solid none solid none solid",
+    ),
+    ("border-top-color", "Teal", "#008080", "grey"),
+    ("border-top-style", "outset", "outset", "1px"),
+    ("border-top-width", "2Pt", "2pt", "2"),
+    ("border-width", "thin 0px", "thin 0", "thin 5%"),
+    ("caption-side", "Bottom", "bottom", "left"),
+    ("clear", "BOTH", "both", "all"),
+    ("color", "lime", "#00ff00", "transparent"),
+    ("float", "Right", "right", "both"),
+    (
+        "font-family",
+        "Arial, SANS-SERIF",
+        "'Arial',sans-serif",
+        "a!",
+    ),
+    ("font-size", "X-Large", "x-large", "-1em"),
+    ("font-style", "oblique", "oblique", "bold"),
+    ("font-variant", "small-caps", "small-caps", "caps"),
+    ("font-weight", "700", "700", "750"),
+    ("height", "050%", "50%", "-1px"),
+    ("letter-spacing", "-.5EM", "-0.5em", "5%"),
+    ("line-height", "1.20", "1.2", "-1"),
+    ("list-style-image", "None", "none", "disc"),
+    ("list-style-position", "inside", "inside", "left"),
+    ("list-style-type", "Lower-Greek", "lower-greek", "hebrew"),
+    ("margin", "1px -2% Auto 0em", "1px -2% auto 0", "normal"),
+    ("margin-bottom", "-1in", "-1in", "1 in"),
+    ("margin-left", "auto", "auto", "1px 2px"),
+    ("margin-right", "5%", "5%", "5"),
+    ("margin-top", "+1px", "1px", "++1px"),
+    ("padding", "1px 2%", "1px 2%", "auto"),
+    ("padding-bottom", "1cm", "1cm", "-1cm"),
+    ("padding-left", "1mm", "1mm", "auto"),
+    ("padding-right", "3%", "3%", "-3%"),
+    ("padding-top", "1pc", "1pc", "1q"),
+    ("table-layout", "Fixed", "fixed", "none"),
+    ("text-align", "justify", "justify", "start"),
+    (
+        "text-decoration",
+        "line-through underline",
+        "underline line-through",
+        "none underline",
+    ),
+    ("text-indent", "-1ex", "-1ex", "auto"),
+    ("text-transform", "Uppercase", "uppercase", "normal"),
+    ("vertical-align", "Text-Top", "text-top", "left"),
+    ("white-space", "Pre-Wrap", "pre-wrap", "wrap"),
+    ("width", "+010.50PX", "10.5px", "normal"),
+    ("word-spacing", "Normal", "normal", "auto"),
+];
+
+// The other branches of properties that have several.
+static BRANCHES: [PropertyRow; 16] = [
+    ("background-color", "#ABC", "#aabbcc", "#abcd"),
+    ("background-image", "None", "none", "auto"),
+    ("border-top-width", "THIN", "thin", "normal"),
+    ("font-size", "120%", "120%", "5"),
+    ("height", "Auto", "auto", "normal"),
+    ("letter-spacing", "normal", "normal", "auto"),
+    ("line-height", "Normal", "normal", "auto"),
+    ("line-height", "1.5em", "1.5em", "-1em"),
+    ("line-height", "120%", "120%", "-5%"),
+    ("list-style-image", "url('b')", "url(\"b\")", "url(b c)"),
+    ("margin-left", "-1px", "-1px", "thin"),
+    ("text-decoration", "None", "none", "blink"),
+    ("text-indent", "5%", "5%", "5"),
+    ("vertical-align", "-5%", "-5%", "-5"),
+    ("width", "auto", "auto", "-5%"),
+    ("word-spacing", "2em", "2em", "2%"),
+];
+
+static STYLES: [Row; 22] = [
+    (
+        "COLOR: Red; position:fixed; color:#0F0",
+        Some("color:#00ff00;"),
+        "the last value of a property, and a property that isn't known",
+    ),
+    (
+        "margin:0px AUTO; border: solid 1px #F00; font-family: \"Times New Roman\" , Serif; background-image:url('HTTP://E.com/a.png'); width:+010.50PX",
+        Some(
+            "margin:0 auto;border:1px solid #ff0000;font-family:'Times New Roman',serif;background-image:url(\"http://e.com/a.png\");width:10.5px;",
+        ),
+        "five forms",
+    ),
+    ("position:fixed", None, "no property that is known"),
+    ("", None, "nothing"),
+    (" ; ;", None, "declarations of white space"),
+    (
+        "color:red;width:1px;color:blue",
+        Some("color:#0000ff;width:1px;"),
+        "a property stays at its first place",
+    ),
+    (
+        "color:red;color:none",
+        Some("color:#ff0000;"),
+        "a value that isn't read changes nothing",
+    ),
+    (
+        "color:none;width:1px;color:red",
+        Some("width:1px;color:#ff0000;"),
+        "and takes no place",
+    ),
+    (
+        "width:1px;height:2px;width:3px;height:4px",
+        Some("width:3px;height:4px;"),
+        "two properties, each twice",
+    ),
+    (
+        "color:red;font-family:'a;width:1px",
+        Some("color:#ff0000;"),
+        "an open quote takes the rest along",
+    ),
+    (
+        "color:red;background-image:url(a;width:1px",
+        Some("color:#ff0000;"),
+        "so does an open parenthesis",
+    ),
+    (
+        "font-family:\"a;b\",c;width:1px",
+        Some("font-family:'c';width:1px;"),
+        "a semicolon in quotes",
+    ),
+    ("color:re\\64;width:1px", Some("width:1px;"), "a backslash"),
+    ("color:red/**/;width:1px", Some("width:1px;"), "a comment"),
+    ("color red;width:1px", Some("width:1px;"), "no colon"),
+    ("color:red:;width:1px", Some("width:1px;"), "two colons"),
+    (
+        " Color :\tRED\n",
+        Some("color:#ff0000;"),
+        "white space round a property and a value",
+    ),
+    (
+        "float:Inherit",
+        Some("float:inherit;"),
+        "what every property takes",
+    ),
+    (
+        "background-image:url(http://bad.com/a)",
+        None,
+        "a host that is denied",
+    ),
+    (
+        "background-image:url(https://a.b/)",
+        Some("background-image:url(\"https://a.b/\");"),
+        "a scheme that is permitted",
+    ),
+    (
+        "background-image:url(tel:1)",
+        None,
+        "one that isn't embedded",
+    ),
+    (
+        "\u{e9}:red;c\u{f6}lor:red;color:r\u{e9}d",
+        None,
+        "letters past ASCII",
+    ),
+];
+
+static STYLES_OF_A_WIDTH: [Row; 4] = [
+    (
+        "width:1px",
+        Some("width:1px;"),
+        "the property that is listed",
+    ),
+    (
+        "color:red;WIDTH:1px;height:1px",
+        Some("width:1px;"),
+        "beside others",
+    ),
+    ("color:red", None, "one that isn't listed"),
+    ("position:fixed", None, "one that isn't known"),
+];
+
+static STYLES_WITHOUT_SCHEMES: [Row; 2] = [
+    (
+        "background-image:url(http://a.b/)",
+        None,
+        "a scheme that isn't listed",
+    ),
+    (
+        "background-image:url(a.png)",
+        Some("background-image:url(\"a.png\");"),
+        "a relative reference",
+    ),
+];
+
+static STYLES_OF_NOTHING: [Row; 2] = [
+    ("width:1px", None, "an empty list permits none"),
+    ("color:inherit", None, "and no other"),
+];
+
+fn is_styled<F: UriTest>(
+    alloc: Global,
+    settings: &Settings,
+    gate: &UriGate<F>,
+    raw: &str,
+    want: Option<&str>,
+) -> Result<bool, AllocError> {
+    match (canon_style(alloc, settings, gate, raw)?, want) {
+        (Some(got), Some(want)) => Ok(got.as_str() == want && stays(alloc, settings, gate, want)?),
+        (None, None) => Ok(true),
+        _ => Ok(false),
+    }
+}
+
+/// Whether the style is read as itself.
+fn stays<F: UriTest>(
+    alloc: Global,
+    settings: &Settings,
+    gate: &UriGate<F>,
+    style: &str,
+) -> Result<bool, AllocError> {
+    match canon_style(alloc, settings, gate, style)? {
+        Some(again) => Ok(again.as_str() == style),
+        None => Ok(false),
+    }
+}
+
+/// The first style that isn't read as its row says.
+fn first_style<F: UriTest + Drop>(
+    alloc: Global,
+    settings: &Settings,
+    kept: HostRule,
+    filter: F,
+    rows: &[Row],
+) -> Result<Option<&'static str>, AllocError>
+    requires { AnswersBy F.may_ask F.answers filter kept }
+{
+    let gate = UriGate::new(kept, filter);
+    for (raw, want, what) in rows {
+        if !is_styled(alloc, settings, &gate, raw, *want)? {
+            return Ok(Some(*what));
+        }
+    }
+    Ok(None)
+}
+
+fn failing_style(
+    alloc: Global,
+    settings: &Settings,
+    rows: &[Row],
+) -> Result<Option<&'static str>, AllocError> {
+    match (rule(alloc)?, rule(alloc)?) {
+        (Some(own), Some(kept)) => {
+            first_style(alloc, settings, kept, |uri: &Uri| own.admits(uri), rows)
+        }
+        _ => Ok(Some("no rule")),
+    }
+}
+
+#[test]
+fn reads_styles(rt: HostRuntime) -> Result<(), Fail> {
+    let alloc = rt.alloc();
+    assert_eq!(rt; failing_style(alloc, &Settings::defaults(), &STYLES)?, None);
+    let width = Settings::read(alloc, b"properties = ['width']")?;
+    assert_eq!(rt; failing_style(alloc, &width, &STYLES_OF_A_WIDTH)?, None);
+    let no_schemes = Settings::read(alloc, b"schemes = []")?;
+    assert_eq!(rt;
+        failing_style(alloc, &no_schemes, &STYLES_WITHOUT_SCHEMES)?,
+        None
+    );
+    let nothing = Settings::read(alloc, b"properties = []")?;
+    assert_eq!(rt; failing_style(alloc, &nothing, &STYLES_OF_NOTHING)?, None);
+    Ok(())
+}
+
+/// A declaration of the property and the value, with this end.
+fn declared(alloc: Global, property: &str, value: &str, end: &str) -> Result<String, AllocError> {
+    let mut style = String::from_str(alloc, property)?;
+    style.push(':')?;
+    style.push_str(value)?;
+    style.push_str(end)?;
+    Ok(style)
+}
+
+/// The first property whose value isn't read as its row says.
+fn first_property<F: UriTest + Drop>(
+    alloc: Global,
+    kept: HostRule,
+    filter: F,
+    rows: &[PropertyRow],
+) -> Result<Option<&'static str>, AllocError>
+    requires { AnswersBy F.may_ask F.answers filter kept }
+{
+    let gate = UriGate::new(kept, filter);
+    let settings = Settings::defaults();
+    for (property, raw, want, refused) in rows {
+        let style = declared(alloc, property, raw, "")?;
+        let written = declared(alloc, property, want, ";")?;
+        let other = declared(alloc, property, refused, "")?;
+        if !is_styled(
+            alloc,
+            &settings,
+            &gate,
+            style.as_str(),
+            Some(written.as_str()),
+        )? || !is_styled(alloc, &settings, &gate, other.as_str(), None)?
+        {
+            return Ok(Some(*property));
+        }
+    }
+    Ok(None)
+}
+
+fn failing_property(
+    alloc: Global,
+    rows: &[PropertyRow],
+) -> Result<Option<&'static str>, AllocError> {
+    match (rule(alloc)?, rule(alloc)?) {
+        (Some(own), Some(kept)) => {
+            first_property(alloc, kept, |uri: &Uri| own.admits(uri), rows)
+        }
+        _ => Ok(Some("no rule")),
+    }
+}
+
+#[test]
+fn knows_the_properties(rt: HostRuntime) -> Result<(), Fail> {
+    let alloc = rt.alloc();
+    assert_eq!(rt; failing_property(alloc, &PROPERTIES)?, None);
+    assert_eq!(rt; failing_property(alloc, &BRANCHES)?, None);
+    Ok(())
+}
+
+/// The declaration, so many times.
+fn repeated(alloc: Global, declaration: &str, times: usize) -> Result<String, AllocError> {
+    let mut style = String::new(alloc);
+    for _ in 0..times {
+        style.push_str(declaration)?;
+    }
+    Ok(style)
+}
+
+/// Whether the style is read as this.
+fn reads_as<F: UriTest + Drop>(
+    alloc: Global,
+    kept: HostRule,
+    filter: F,
+    raw: &str,
+    want: Option<&str>,
+) -> Result<bool, AllocError>
+    requires { AnswersBy F.may_ask F.answers filter kept }
+{
+    let gate = UriGate::new(kept, filter);
+    is_styled(alloc, &Settings::defaults(), &gate, raw, want)
+}
+
+fn is_read_as(alloc: Global, raw: &str, want: Option<&str>) -> Result<bool, AllocError> {
+    match (rule(alloc)?, rule(alloc)?) {
+        (Some(own), Some(kept)) => reads_as(alloc, kept, |uri: &Uri| own.admits(uri), raw, want),
+        _ => Ok(false),
+    }
+}
+
+#[test]
+fn reads_long_styles(rt: HostRuntime) -> Result<(), Fail> {
+    let alloc = rt.alloc();
+    let same = repeated(alloc, "width:1px;", 100_000)?;
+    assert!(rt; is_read_as(alloc, same.as_str(), Some("width:1px;"))?);
+    let other = repeated(alloc, "a:b;", 250_000)?;
+    assert!(rt; is_read_as(alloc, other.as_str(), None)?);
+    let value = repeated(alloc, " ", 1_000_000)?;
+    assert!(rt; is_read_as(alloc, value.as_str(), None)?);
     Ok(())
 }

@@ -4,14 +4,10 @@ use Rattle.std.specs.List.{list_any}
 use Rattle.std.proofs.lemmas.Bool.Decides.{same_from_decides}
 use denote.Enum.Bare.{same_true, sameb, true_same}
 use Rattle.pur_names.specs.Attributes.{same_attr}
-use Rattle.pur_names.specs.Properties.{same_prop}
 use Rattle.pur_names.specs.contracts.attributes.Attr.{the_type as attr_type}
-use Rattle.pur_names.specs.contracts.properties.StyleProp.{the_type as prop_type}
 use Rattle.pur_names.specs.declared.attributes.Attr.{Attr}
 use Rattle.pur_names.specs.declared.attributes.Attr.TheVariants.{Lang, XmlLang}
-use Rattle.pur_names.specs.declared.properties.StyleProp.{StyleProp}
 use Rattle.pur_names.proofs.AttrLaws.{same_attr-Decides}
-use Rattle.pur_names.proofs.StylePropLaws.{same_prop-Decides}
 use Rattle.pur_settings.specs.Rules.{is_language, is_meant}
 
 pub same_attrs : (a b : Attr) → sameb attr_type a b ≡ same_attr b a
@@ -19,12 +15,6 @@ same_attrs a b =
     same_from_decides {P = a ≡ b} (sameb attr_type a b) (same_attr b a)
     (λ tested. same_true attr_type (search rules) a b tested, λ e. true_same attr_type a b e)
     (λ tested. sym ((same_attr-Decides b a).0 tested), λ e. (same_attr-Decides b a).1 (sym e))
-
-pub same_props : (a b : StyleProp) → sameb prop_type a b ≡ same_prop b a
-same_props a b =
-    same_from_decides {P = a ≡ b} (sameb prop_type a b) (same_prop b a)
-    (λ tested. same_true prop_type (search rules) a b tested, λ e. true_same prop_type a b e)
-    (λ tested. sym ((same_prop-Decides b a).0 tested), λ e. (same_prop-Decides b a).1 (sym e))
 
 same_swap : (a b : Attr) → same_attr a b ≡ same_attr b a
 same_swap a b =

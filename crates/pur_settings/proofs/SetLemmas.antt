@@ -1,18 +1,21 @@
--- The sets of elements, attributes and schemes: what a table of truth values holds, a set with one more, a set in order.
+-- The sets of elements, attributes, properties and schemes: what a table of truth values holds, a set with one more, a set in order.
 use Rattle.std.proofs.Common.{◌≡◌, ◌<◌, Bool, true, List, [], ◌∷◌, ◌++◌, refl, length}
 use Rattle.std.specs.Prelude.{slice_set}
 use Rattle.pur_names.specs.Attributes.{all_attrs, attr_rank}
 use Rattle.pur_names.specs.Elements.{all_elements, element_rank}
+use Rattle.pur_names.specs.Properties.{all_props, prop_rank}
 use Rattle.pur_names.specs.Schemes.{all_schemes, scheme_rank}
 use Rattle.pur_names.proofs.AttrLaws.{all_attrs-rank}
 use Rattle.pur_names.proofs.ElementLaws.{all_elements-rank}
 use Rattle.pur_names.proofs.SchemeNameLaws.{all_schemes-rank}
+use Rattle.pur_names.proofs.StylePropLaws.{all_props-rank}
 use Rattle.pur_names.specs.declared.attributes.Attr.{Attr}
 use Rattle.pur_names.specs.declared.elements.Element.{Element}
+use Rattle.pur_names.specs.declared.properties.StyleProp.{StyleProp}
 use Rattle.pur_names.specs.declared.schemes.SchemeName.{SchemeName}
 use Rattle.pur_settings.proofs.RankedSetLemmas.{is_in, any-selected, held-with, with-more, twice}
-use Rattle.pur_settings.specs.Private.Sets.{with_element, with_attribute, with_scheme, is_held, elements_held, attributes_held, schemes_held}
-use Rattle.pur_settings.specs.Table.{attributes_in_order, in_order, schemes_in_order}
+use Rattle.pur_settings.specs.Private.Sets.{with_element, with_attribute, with_property, with_scheme, is_held, elements_held, attributes_held, properties_held, schemes_held}
+use Rattle.pur_settings.specs.Table.{attributes_in_order, in_order, properties_in_order, schemes_in_order}
 
 -- a table of elements with one more place set holds one more
 pub elements_held-with : (table : List Bool) (e : Element) → element_rank e < length table → elements_held (slice_set table (element_rank e) true) ≡ with_element e (elements_held table)
@@ -63,6 +66,31 @@ attributes_in_order-twice xs = twice attr_rank all_attrs all_attrs-rank xs
 pub attributes_in_order-none : attributes_in_order [] ≡ []
 unfolding attributes_in_order
 attributes_in_order-none = refl
+
+-- a table of properties with one more place set holds one more
+pub properties_held-with : (table : List Bool) (e : StyleProp) → prop_rank e < length table → properties_held (slice_set table (prop_rank e) true) ≡ with_property e (properties_held table)
+unfolding properties_in_order properties_held
+properties_held-with table e within = held-with prop_rank all_props all_props-rank table e within
+
+-- a table holds what its place says
+pub properties_held-test : (table : List Bool) (e : StyleProp) → is_in prop_rank (properties_held table) e ≡ is_held prop_rank table e
+unfolding properties_held
+properties_held-test table e = any-selected prop_rank all_props all_props-rank (is_held prop_rank table) e
+
+-- a set with one more and others is the set with the one and the others
+pub properties_in_order-more : (e : StyleProp) (set more : List StyleProp) → properties_in_order (with_property e set ++ more) ≡ properties_in_order (set ++ e ∷ more)
+unfolding properties_in_order
+properties_in_order-more e set more = with-more prop_rank all_props all_props-rank e set more
+
+-- a set in order stays so
+pub properties_in_order-twice : (xs : List StyleProp) → properties_in_order (properties_in_order xs) ≡ properties_in_order xs
+unfolding properties_in_order
+properties_in_order-twice xs = twice prop_rank all_props all_props-rank xs
+
+-- the empty set is in order
+pub properties_in_order-none : properties_in_order [] ≡ []
+unfolding properties_in_order
+properties_in_order-none = refl
 
 -- a table of schemes with one more place set holds one more
 pub schemes_held-with : (table : List Bool) (e : SchemeName) → scheme_rank e < length table → schemes_held (slice_set table (scheme_rank e) true) ≡ with_scheme e (schemes_held table)

@@ -19,7 +19,7 @@ use Rattle.pur_modules.specs.declared.kinds.Doctype.{Doctype}
 use Rattle.pur_modules.specs.declared.kinds.Doctype.TheVariants.{Transitional}
 
 -- the member of each key, in the order of the keys; a list that a text lacks is no list, which permits all of its sort;
--- attributes, elements and schemes that are listed stand here each once, in the order in which all of them stand
+-- attributes, elements, properties and schemes that are listed stand here each once, in the order in which all of them stand
 pub record Rules : Type 0 where
   pub attributes : Option (List Attr)
   pub auto_paragraph : Bool

@@ -9,10 +9,12 @@ use Rattle.toml.specs.Data.{Data}
 use Rattle.pur_text.specs.Hosts.{is_host}
 use Rattle.pur_names.specs.Attributes.{all_attrs, attr_named, same_attr}
 use Rattle.pur_names.specs.Elements.{all_elements, element_named}
+use Rattle.pur_names.specs.Properties.{all_props, prop_named, same_prop}
 use Rattle.pur_names.specs.Schemes.{all_schemes, same_scheme, scheme_named}
 use Rattle.pur_names.specs.declared.attributes.Attr.{Attr}
 use Rattle.pur_names.specs.declared.attributes.Attr.TheVariants.{Name}
 use Rattle.pur_names.specs.declared.elements.Element.{Element}
+use Rattle.pur_names.specs.declared.properties.StyleProp.{StyleProp}
 use Rattle.pur_names.specs.declared.schemes.SchemeName.{SchemeName}
 use Rattle.pur_modules.specs.Groups.{is_among, elements_of}
 use Rattle.pur_modules.specs.declared.kinds.Content.{Content}
@@ -61,6 +63,10 @@ attribute_of text = option_and_then (λ attr. if same_attr attr Name then None e
 unfoldable pub attributes_in_order : List Attr → List Attr
 attributes_in_order attrs = filter (λ attr. list_any (same_attr attr) attrs) all_attrs
 
+-- the properties of a list, each once, in the order of their names
+unfoldable pub properties_in_order : List StyleProp → List StyleProp
+properties_in_order properties = filter (λ property. list_any (same_prop property) properties) all_props
+
 -- the schemes of a list, each once, in the order of the list of all
 unfoldable pub schemes_in_order : List SchemeName → List SchemeName
 schemes_in_order schemes = filter (λ scheme. list_any (same_scheme scheme) schemes) all_schemes
@@ -85,6 +91,7 @@ table_for doctype =
     ∷ row (codes "id_prefix") (text_in prefix_named) (λ prefix rules. record rules { id_prefix = prefix })
     ∷ row (codes "ids") truth_in (λ ids rules. record rules { ids = ids })
     ∷ row (codes "parent") (text_in content_in_parent) (λ content rules. record rules { parent = content })
+    ∷ row (codes "properties") (list_in prop_named) (λ properties rules. record rules { properties = Some (properties_in_order properties) })
     ∷ row (codes "schemes") (list_in scheme_named) (λ schemes rules. record rules { schemes = Some (schemes_in_order schemes) })
     ∷ row (codes "version") (number_in (int_eq (pos 1))) (λ version rules. rules)
     ∷ []

@@ -8,6 +8,7 @@ mod attribute_table;
 mod element_table;
 mod faults;
 mod prefixes;
+mod property_table;
 mod reading;
 mod scheme_table;
 mod site_settings;

@@ -7,22 +7,24 @@ ghost use Rattle.std.specs.Ordering.{int_eq};
 ghost use Rattle.toml.specs.Data.{as_str, as_array};
 ghost use Rattle.toml.specs.View.{view, array_view, table_view};
 ghost use Rattle.pur_text.specs.Hosts.{is_host};
+ghost use Rattle.pur_names.specs.Properties.{prop_named};
 ghost use Rattle.pur_names.specs.Schemes.{scheme_named};
 ghost use Rattle.pur_settings.specs.Prefixes.{is_id_prefix};
 ghost use Rattle.pur_settings.specs.Private.Walk.{Ascends, with_all, with_member};
 ghost use Rattle.pur_settings.specs.Reading.{reading_map, truth_in, text_in, list_in, number_in};
 ghost use Rattle.pur_settings.specs.Rules.{is_for_fragments};
 ghost use Rattle.pur_settings.specs.Settings.{doctype_in, settings_in, unless_conflict};
-ghost use Rattle.pur_settings.specs.Table.{attribute_of, attributes_in_order, content_in_parent, doctype_named, element_of, host_named, in_order, prefix_named, schemes_in_order, table_for};
+ghost use Rattle.pur_settings.specs.Table.{attribute_of, attributes_in_order, content_in_parent, doctype_named, element_of, host_named, in_order, prefix_named, properties_in_order, schemes_in_order, table_for};
 
 use crate::attribute_table::AttributeTable;
 use crate::element_table::ElementTable;
 use crate::faults::SettingsFault;
 use crate::prefixes::is_id_prefix;
+use crate::property_table::PropertyTable;
 use crate::scheme_table::SchemeTable;
 use crate::site_settings::Settings;
 use pur_modules::{Content, Doctype, declares};
-use pur_names::{Attr, Element, SchemeName};
+use pur_names::{Attr, Element, SchemeName, StyleProp};
 use pur_text::is_host;
 use std::alloc::Global;
 use toml::{Table, Value};
@@ -106,6 +108,7 @@ fn read_member(
         "id_prefix" => settings.set_id_prefix(read_prefix(alloc, value)?),
         "ids" => settings.set_ids(read_truth(value)?),
         "parent" => settings.set_parent(read_parent(value)?),
+        "properties" => settings.set_properties(read_properties(value)?),
         "schemes" => settings.set_schemes(read_schemes(value)?),
         "version" => {
             read_version(value)?;
@@ -235,6 +238,25 @@ fn copy_of(alloc: Global, text: &str) -> Result<String, SettingsFault>
         Ok(copy) => Ok(copy),
         Err(_) => Err(SettingsFault::Memory),
     }
+}
+
+// The properties that a list names.
+fn read_properties(value: &Value) -> Result<PropertyTable, SettingsFault>
+    ensures { result ≡ reading_map properties_in_order (list_in prop_named (view value.now)) }
+{
+    let mut properties = PropertyTable::new();
+    for item in read_items(value)? {
+        let property = read_property(item)?;
+        properties.insert(property);
+    }
+    Ok(properties)
+}
+
+// The property that a value names.
+fn read_property(value: &Value) -> Result<StyleProp, SettingsFault>
+    ensures { result ≡ text_in prop_named (view value.now) }
+{
+    StyleProp::from_name(read_text(value)?).ok_or(SettingsFault::UnknownName)
 }
 
 // The schemes that a list names.

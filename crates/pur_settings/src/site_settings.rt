@@ -4,7 +4,6 @@ ghost use Rattle.std.specs.Prelude.{◌≡◌, ◌≢◌, IsTrue, ◌≤◌, ◌
 ghost use Rattle.std.specs.List.{list_all, list_any};
 ghost use Rattle.pur_text.specs.Hosts.{is_host};
 ghost use Rattle.pur_names.specs.Attributes.{same_attr};
-ghost use Rattle.pur_names.specs.Properties.{same_prop};
 ghost use Rattle.pur_settings.specs.Prefixes.{is_id_prefix};
 ghost use Rattle.pur_settings.specs.Rules.{default_rules, is_for_fragments, is_host_or_none, is_in_conflict, permits_element, is_language, is_meant, permits_attribute, permits_property, permits_a_scheme};
 ghost use Rattle.pur_settings.specs.Settings.{settings_of, IsRefusedFor};
@@ -12,6 +11,7 @@ ghost use Rattle.pur_settings.specs.Settings.{settings_of, IsRefusedFor};
 use crate::attribute_table::AttributeTable;
 use crate::element_table::ElementTable;
 use crate::faults::SettingsFault;
+use crate::property_table::PropertyTable;
 use crate::reading::read_table;
 use crate::scheme_table::SchemeTable;
 use pur_modules::{Content, Doctype, attributes, declares, required};
@@ -37,7 +37,7 @@ pub struct Settings {
     ids: bool,
     linkify: bool,
     parent: Content,
-    properties: Option<Vec<StyleProp>>,
+    properties: Option<PropertyTable>,
     schemes: Option<SchemeTable>,
 }
 
@@ -64,7 +64,7 @@ impl Model for Settings {
       ids = settings.ids;
       linkify = settings.linkify;
       parent = settings.parent;
-      properties = option_map (λ properties. properties.items) settings.properties;
+      properties = settings.properties;
       schemes = settings.schemes;
     } };
 
@@ -102,7 +102,7 @@ impl Settings {
     }
 
     /// Reads a settings text of at most 65,536 bytes: a TOML document with the keys `attributes`, `denied_hosts`,
-    /// `doctype`, `elements`, `external`, `host`, `id_prefix`, `ids`, `parent`, `schemes` and `version` at its top level.
+    /// `doctype`, `elements`, `external`, `host`, `id_prefix`, `ids`, `parent`, `properties`, `schemes` and `version` at its top level.
     ///
     /// Fails at the first offence in the order of the keys' bytes; after all keys, where `external` is false and `host`
     /// isn't there; and where memory is wanting.
@@ -161,7 +161,7 @@ impl Settings {
         ensures { result ≡ permits_property self.now property }
     {
         match &self.properties {
-            Some(properties) => has_prop(properties.as_slice(), property),
+            Some(properties) => properties.contains(property),
             None => true,
         }
     }
@@ -314,6 +314,13 @@ impl Settings {
         self.parent = parent;
     }
 
+    // Sets the list of properties.
+    pub(crate) fn set_properties(&mut self, properties: PropertyTable)
+        ensures { self.new ≡ record self.old { properties = Some properties } }
+    {
+        self.properties = Some(properties);
+    }
+
     // Sets the list of schemes.
     pub(crate) fn set_schemes(&mut self, schemes: SchemeTable)
         ensures { self.new ≡ record self.old { schemes = Some schemes } }
@@ -344,11 +351,4 @@ fn has_attr(attrs: &[Attr], attr: Attr) -> bool
     ensures { result ≡ list_any (same_attr attr) attrs.now }
 {
     attrs.iter().any(|listed| *listed == attr)
-}
-
-// Whether the property is in the list.
-fn has_prop(properties: &[StyleProp], property: StyleProp) -> bool
-    ensures { result ≡ list_any (same_prop property) properties.now }
-{
-    properties.iter().any(|listed| *listed == property)
 }

@@ -167,7 +167,7 @@ fn fault_of(alloc: Global, text: &str) -> Option<SettingsFault> {
 }
 
 // Lists and truth values of another kind.
-static OTHER_KINDS: [&str; 25] = [
+static OTHER_KINDS: [&str; 30] = [
     "attributes = 'class'",
     "attributes = true",
     "attributes = [1]",
@@ -190,6 +190,11 @@ static OTHER_KINDS: [&str; 25] = [
     "ids = 'true'",
     "ids = 1",
     "ids = [true]",
+    "properties = 'color'",
+    "properties = true",
+    "properties = [['color']]",
+    "properties = ['color', 1, 'position']",
+    "properties.color = true",
     "schemes = 'http'",
     "schemes = ['http', 80]",
     "schemes.http = true",
@@ -207,7 +212,7 @@ fn values_of_another_kind(rt: HostRuntime) {
 }
 
 // Texts that aren't members.
-static OTHER_NAMES: [&str; 22] = [
+static OTHER_NAMES: [&str; 27] = [
     "attributes = ['onclick']",
     "attributes = ['name']",
     "attributes = ['CLASS']",
@@ -227,6 +232,11 @@ static OTHER_NAMES: [&str; 22] = [
     "id_prefix = '-a'",
     "id_prefix = 'a b'",
     "id_prefix = 'é'",
+    "properties = ['position']",
+    "properties = ['Color']",
+    "properties = [' color']",
+    "properties = ['']",
+    "properties = ['color', 'background', 1]",
     "schemes = ['javascript']",
     "schemes = ['HTTP']",
     "schemes = ['http:']",
@@ -243,11 +253,11 @@ fn names_that_are_no_members(rt: HostRuntime) {
     }
 }
 
-// Keys that no part reads so far.
+// Keys that no part reads so far, and one that none reads.
 static OTHER_KEYS: [&str; 3] = [
     "auto_paragraph = true",
     "linkify = true",
-    "properties = ['color']",
+    "property = ['color']",
 ];
 
 #[test]
@@ -306,6 +316,19 @@ fn listed_schemes_are_permitted(rt: HostRuntime) -> Result<(), Fail> {
     assert!(rt; !settings.permits_scheme(SchemeName::Https));
     let none = Settings::read(rt.alloc(), b"schemes = []")?;
     assert!(rt; !none.permits_scheme(SchemeName::Http));
+    Ok(())
+}
+
+#[test]
+fn listed_properties_are_permitted(rt: HostRuntime) -> Result<(), Fail> {
+    let text = b"properties = ['width', 'background-attachment', 'width', 'word-spacing']";
+    let settings = Settings::read(rt.alloc(), text)?;
+    assert!(rt; settings.permits_prop(StyleProp::BackgroundAttachment));
+    assert!(rt; settings.permits_prop(StyleProp::Width));
+    assert!(rt; settings.permits_prop(StyleProp::WordSpacing));
+    assert!(rt; !settings.permits_prop(StyleProp::Height));
+    let none = Settings::read(rt.alloc(), b"properties = []")?;
+    assert!(rt; !none.permits_prop(StyleProp::Width));
     Ok(())
 }
 
