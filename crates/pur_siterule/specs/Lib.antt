@@ -1,1 +1,2 @@
 pub mod SiteRules
+pub mod Uses

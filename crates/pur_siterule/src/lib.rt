@@ -7,5 +7,7 @@
 mod hosts;
 #[cfg(test)]
 mod tests;
+mod uses;
 
 pub use hosts::host_rule;
+pub use uses::{read_uri, uris_are_allowed, uris_are_read_again};

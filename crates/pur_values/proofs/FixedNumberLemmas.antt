@@ -60,7 +60,7 @@ pub record IsMeasure (most : ℕ) (unit text : List ℕ) : Type 0 where
   pub small : number ≤ most
   pub text_is : text ≡ decimal number ++ unit
 
-measured : (most : ℕ) (unit text : List ℕ) (number : Option ℕ) → measure most unit number ≡ Some text → IsMeasure most unit text
+pub measured : (most : ℕ) (unit text : List ℕ) (number : Option ℕ) → measure most unit number ≡ Some text → IsMeasure most unit text
 measured most unit text None is = absurd (cc)
 measured most unit text (Some n) is = record { number = min n most; small = omega arith; text_is = (let e : at_most most n ++ unit ≡ text = cc in sym e) }
 
@@ -93,7 +93,7 @@ fixed_in_pixels text m =
     let r = read_again 9999 [] text (lit< tt) refl refl m in
     ap (λ u. pixels (digits_of text) u) r.unit_is ∙ ap (λ d. pixels d []) r.digits_are ∙ r.measured_again
 
-pixels_measured : (digits unit text : List ℕ) → pixels digits unit ≡ Some text → IsMeasure 9999 [] text
+pub pixels_measured : (digits unit text : List ℕ) → pixels digits unit ≡ Some text → IsMeasure 9999 [] text
 pixels_measured digits unit text is = ⊎_elim
     (λ (unit_is : is_pixel_unit unit ≡ true).
     measured 9999 [] text (numeral digits) (sym (cond-true (is_pixel_unit unit) (measure 9999 [] (numeral digits)) None unit_is) ∙ is))
@@ -106,10 +106,10 @@ fixed_pixels text value is =
     let m = pixels_measured (digits_of text) (unit_of text) value is in
     record { again = fixed_in_pixels value m; tight = (read_again 9999 [] value (lit< tt) refl refl m).tight }
 
-abbrev percent : List ℕ
+abbrev pub percent : List ℕ
 percent = codes "%"
 
-abbrev star : List ℕ
+abbrev pub star : List ℕ
 star = codes "*"
 
 -- a length is in pixels or a part

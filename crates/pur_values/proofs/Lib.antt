@@ -1,3 +1,4 @@
+pub mod AllowedLemmas
 pub mod AttrLemmas
 pub mod CutLemmas
 pub mod FixedLemmas

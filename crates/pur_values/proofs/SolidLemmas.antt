@@ -105,10 +105,10 @@ first_of test c (piece ∷ pieces) all =
     let inner = and_parts (test c) (list_all test piece) outer.0 in
     (inner.0, and_from (list_all test piece) (list_all (list_all test) pieces) inner.1 outer.1)
 
-abbrev is_dash : ℕ → Bool
+abbrev pub is_dash : ℕ → Bool
 is_dash c = c == 0x2D
 
-pieces_all : (test : ℕ → Bool) → ((c : ℕ) → is_dash c ≡ true → test c ≡ true) → (text : List ℕ)
+pub pieces_all : (test : ℕ → Bool) → ((c : ℕ) → is_dash c ≡ true → test c ≡ true) → (text : List ℕ)
     → list_all (list_all test) (slice_split is_dash text) ≡ true → list_all test text ≡ true
 pieces_all test dashes [] all = refl
 pieces_all test dashes (c ∷ text) all = ⊎_elim

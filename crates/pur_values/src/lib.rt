@@ -12,7 +12,7 @@ mod tokens;
 mod words;
 
 pub use kinds::{ValueKind, kind_of};
-pub use laws::canonical_is_read_as_itself;
+pub use laws::{canonical_is_read_as_itself, values_are_allowed};
 pub use reading::read_value;
 
 #[cfg(test)]
