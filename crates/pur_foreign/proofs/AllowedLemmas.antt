@@ -1,6 +1,6 @@
 -- Tokens of allowed characters leave tokens of allowed characters alone.
-use Rattle.std.proofs.Common.{◌≡◌, ℕ, true, false, List, [], ◌∷◌, ◌++◌, flat_map, Option, None, Some, IfSome, refl}
-use Rattle.std.specs.Prelude.{Bool, if◌then◌else◌, ◌&&◌, not, codes}
+use Rattle.std.proofs.Common.{◌≡◌, ℕ, true, List, [], ◌∷◌, ◌++◌, flat_map, Option, None, Some, IfSome, refl}
+use Rattle.std.specs.Prelude.{◌&&◌, not, codes}
 use Rattle.std.specs.List.{list_all}
 use Rattle.std.specs.Str.{bytes_eq}
 use Rattle.std.proofs.lemmas.Bool.{and_parts, and_from}
@@ -9,18 +9,20 @@ use Rattle.pur_laws.proofs.Lists.{all-append, all-filter}
 use Rattle.pur_text.specs.Characters.{is_allowed}
 use Rattle.pur_text.specs.Trimming.{trimmed}
 use Rattle.pur_names.specs.declared.elements.Element.{Element}
-use Rattle.pur_names.specs.declared.elements.Element.TheVariants.{Font, Center, U, S, Strike}
+use Rattle.pur_names.specs.declared.elements.Element.TheVariants.{Font}
 use Rattle.pur_names.specs.Elements.{element_name, element_named}
 use Rattle.pur_names.proofs.ElementLaws.{each_element}
 use Rattle.pur_modules.specs.declared.kinds.Doctype.{Doctype}
 use Rattle.pur_modules.specs.declared.kinds.Doctype.TheVariants.{Strict, Transitional}
 use Rattle.pur_tokens.specs.Attributes.{Attribute, is_same_text, value_of, with_value, without}
 use Rattle.pur_tokens.specs.Characters.{attribute_has_only, token_has_only}
+use Rattle.pur_tokens.specs.Styles.{text_or_none, with_style}
 use Rattle.pur_tokens.proofs.JoiningLaws.{only-joined}
 use Rattle.pur_tokens.specs.Tokens.{PlainToken, text_token, start_token, end_token, empty_token, hidden_token, comment_token}
 use Rattle.pur_settings.specs.Rules.{Rules, permits_element}
+use Rattle.pur_urigate.specs.HostRules.{PlainHostRule}
 use Rattle.pur_foreign.specs.Removal.{element_in, attributes_in, is_admitted, tag_image, end_image, image_of, without_foreign}
-use Rattle.pur_foreign.specs.Strict.{size_named, size_of, declaration, font_style, style_text, attributes_left, text_or_none, with_style, strict_attributes}
+use Rattle.pur_foreign.specs.Strict.{size_named, size_of, declaration, font_style, style_text, attributes_left}
 
 abbrev Allowed : List ℕ → Type 0
 Allowed text = list_all is_allowed text ≡ true
@@ -128,15 +130,15 @@ name_allowed element = each_element (λ e. list_all is_allowed (element_name e))
 one_token : (token : PlainToken) → token_has_only is_allowed token ≡ true → TokensAllowed (token ∷ [])
 one_token token all = and_from (token_has_only is_allowed token) true all refl
 
-tag_allowed : (rules : Rules) (tag : List ℕ → List Attribute → PlainToken) (element : Option Element) (attrs : List Attribute)
+tag_allowed : (rules : Rules) (rule : PlainHostRule) (tag : List ℕ → List Attribute → PlainToken) (element : Option Element) (attrs : List Attribute)
     → ((name : List ℕ) (pairs : List Attribute) → Allowed name → PairsAllowed pairs → token_has_only is_allowed (tag name pairs) ≡ true)
-    → PairsAllowed attrs → TokensAllowed (tag_image rules tag element attrs)
-tag_allowed rules tag None attrs makes all = refl
-tag_allowed rules tag (Some element) attrs makes all =
+    → PairsAllowed attrs → TokensAllowed (tag_image rules rule tag element attrs)
+tag_allowed rules rule tag None attrs makes all = refl
+tag_allowed rules rule tag (Some element) attrs makes all =
     let kept = element_in rules.doctype element in
-    either TokensAllowed (permits_element rules kept && is_admitted kept) _ _
-    (one_token (tag (element_name kept) (attributes_in rules.doctype element attrs))
-    (makes (element_name kept) (attributes_in rules.doctype element attrs) (name_allowed kept) (attributes_allowed rules.doctype element attrs all)))
+    let left = attributes_in rules.doctype element attrs in
+    either TokensAllowed (permits_element rules kept && is_admitted rules rule kept left) _ _
+    (one_token (tag (element_name kept) left) (makes (element_name kept) left (name_allowed kept) (attributes_allowed rules.doctype element attrs all)))
     refl
 
 end_allowed : (rules : Rules) (element : Option Element) → TokensAllowed (end_image rules element)
@@ -152,23 +154,23 @@ named name pairs n all = and_from (list_all is_allowed name) (list_all (attribut
 attributes_of : (name : List ℕ) (attrs : List Attribute) → (list_all is_allowed name && list_all (attribute_has_only is_allowed) attrs) ≡ true → PairsAllowed attrs
 attributes_of name attrs all = (and_parts (list_all is_allowed name) (list_all (attribute_has_only is_allowed) attrs) all).1
 
-image_allowed : (rules : Rules) (token : PlainToken) → token_has_only is_allowed token ≡ true → TokensAllowed (image_of rules token)
-image_allowed rules (text_token text) all = one_token (text_token text) all
-image_allowed rules (start_token name attrs) all = tag_allowed rules start_token (element_named name) attrs named (attributes_of name attrs all)
-image_allowed rules (empty_token name attrs) all = tag_allowed rules empty_token (element_named name) attrs named (attributes_of name attrs all)
-image_allowed rules (end_token name) all = end_allowed rules (element_named name)
-image_allowed rules (hidden_token name body) all = refl
-image_allowed rules (comment_token text) all = refl
+image_allowed : (rules : Rules) (rule : PlainHostRule) (token : PlainToken) → token_has_only is_allowed token ≡ true → TokensAllowed (image_of rules rule token)
+image_allowed rules rule (text_token text) all = one_token (text_token text) all
+image_allowed rules rule (start_token name attrs) all = tag_allowed rules rule start_token (element_named name) attrs named (attributes_of name attrs all)
+image_allowed rules rule (empty_token name attrs) all = tag_allowed rules rule empty_token (element_named name) attrs named (attributes_of name attrs all)
+image_allowed rules rule (end_token name) all = end_allowed rules (element_named name)
+image_allowed rules rule (hidden_token name body) all = refl
+image_allowed rules rule (comment_token text) all = refl
 
-images_allowed : (rules : Rules) (tokens : List PlainToken) → TokensAllowed tokens → TokensAllowed (flat_map (image_of rules) tokens)
-images_allowed rules [] all = refl
-images_allowed rules (token ∷ tokens) all =
+images_allowed : (rules : Rules) (rule : PlainHostRule) (tokens : List PlainToken) → TokensAllowed tokens → TokensAllowed (flat_map (image_of rules rule) tokens)
+images_allowed rules rule [] all = refl
+images_allowed rules rule (token ∷ tokens) all =
     let parts = and_parts (token_has_only is_allowed token) (list_all (token_has_only is_allowed) tokens) all in
-    all-append (token_has_only is_allowed) (image_of rules token) (flat_map (image_of rules) tokens)
-    (image_allowed rules token parts.0) (images_allowed rules tokens parts.1)
+    all-append (token_has_only is_allowed) (image_of rules rule token) (flat_map (image_of rules rule) tokens)
+    (image_allowed rules rule token parts.0) (images_allowed rules rule tokens parts.1)
 
 -- what stays of tokens of allowed characters has allowed characters alone
-pub foreign_allowed : (rules : Rules) (tokens : List PlainToken) → list_all (token_has_only is_allowed) tokens ≡ true
-    → list_all (token_has_only is_allowed) (without_foreign rules tokens) ≡ true
+pub foreign_allowed : (rules : Rules) (rule : PlainHostRule) (tokens : List PlainToken) → list_all (token_has_only is_allowed) tokens ≡ true
+    → list_all (token_has_only is_allowed) (without_foreign rules rule tokens) ≡ true
 unfolding without_foreign
-foreign_allowed rules tokens all = only-joined is_allowed (flat_map (image_of rules) tokens) (images_allowed rules tokens all)
+foreign_allowed rules rule tokens all = only-joined is_allowed (flat_map (image_of rules rule) tokens) (images_allowed rules rule tokens all)

@@ -4,3 +4,5 @@ pub mod StrictLemmas
 pub mod RemovalLemmas
 pub mod ImageLemmas
 pub mod ShownLemmas
+pub mod PictureLemmas
+pub mod StayLemmas

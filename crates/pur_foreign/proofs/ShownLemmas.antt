@@ -11,17 +11,18 @@ use Rattle.pur_tokens.specs.Joining.{has_no_empty_text, is_some_token}
 use Rattle.pur_tokens.specs.Tokens.{PlainToken, shows_only, text_token, start_token, end_token, empty_token, hidden_token, comment_token}
 use Rattle.pur_tokens.proofs.JoiningLaws.{shown-joined}
 use Rattle.pur_settings.specs.Rules.{Rules, permits_element, permits_found, permits_name}
+use Rattle.pur_urigate.specs.HostRules.{PlainHostRule}
 use Rattle.pur_foreign.specs.Removal.{element_in, attributes_in, is_admitted, tag_image, end_image, image_of, without_foreign}
 
 named : (rules : Rules) (e : Element) → permits_element rules e ≡ true → permits_name rules (element_name e) ≡ true
 named rules e permitted = ap (permits_found rules) (element_named-name e) ∙ permitted
 
 -- what stands for a tag
-shown-tag : (rules : Rules) (tag : List ℕ → List Attribute → PlainToken)
+shown-tag : (rules : Rules) (rule : PlainHostRule) (tag : List ℕ → List Attribute → PlainToken)
     → ((name : List ℕ) (attrs : List Attribute) → shows_only (permits_name rules) (tag name attrs) ≡ permits_name rules name)
-    → (found : Option Element) (attrs : List Attribute) → list_all (shows_only (permits_name rules)) (tag_image rules tag found attrs) ≡ true
-shown-tag rules tag says None attrs = refl
-shown-tag rules tag says (Some e) attrs = go (permits_element rules kept) (is_admitted kept) refl
+    → (found : Option Element) (attrs : List Attribute) → list_all (shows_only (permits_name rules)) (tag_image rules rule tag found attrs) ≡ true
+shown-tag rules rule tag says None attrs = refl
+shown-tag rules rule tag says (Some e) attrs = go (permits_element rules kept) (is_admitted rules rule kept (attributes_in rules.doctype e attrs)) refl
   where
     kept : Element
     kept = element_in rules.doctype e
@@ -44,24 +45,24 @@ shown-end rules (Some e) = go (permits_element rules kept) refl
     go true permitted = and_from _ _ (named rules kept permitted) refl
     go false permitted = refl
 
-shown-image : (rules : Rules) (token : PlainToken) → is_some_token token ≡ true → list_all (shows_only (permits_name rules)) (image_of rules token) ≡ true
-shown-image rules (text_token text) some = and_from _ _ some refl
-shown-image rules (start_token name attrs) some = shown-tag rules start_token (λ name attrs. refl) (element_named name) attrs
-shown-image rules (empty_token name attrs) some = shown-tag rules empty_token (λ name attrs. refl) (element_named name) attrs
-shown-image rules (end_token name) some = shown-end rules (element_named name)
-shown-image rules (hidden_token name body) some = refl
-shown-image rules (comment_token text) some = refl
+shown-image : (rules : Rules) (rule : PlainHostRule) (token : PlainToken) → is_some_token token ≡ true → list_all (shows_only (permits_name rules)) (image_of rules rule token) ≡ true
+shown-image rules rule (text_token text) some = and_from _ _ some refl
+shown-image rules rule (start_token name attrs) some = shown-tag rules rule start_token (λ name attrs. refl) (element_named name) attrs
+shown-image rules rule (empty_token name attrs) some = shown-tag rules rule empty_token (λ name attrs. refl) (element_named name) attrs
+shown-image rules rule (end_token name) some = shown-end rules (element_named name)
+shown-image rules rule (hidden_token name body) some = refl
+shown-image rules rule (comment_token text) some = refl
 
-shown-images : (rules : Rules) (tokens : List PlainToken) → has_no_empty_text tokens ≡ true
-    → list_all (shows_only (permits_name rules)) (flat_map (image_of rules) tokens) ≡ true
-shown-images rules [] some = refl
-shown-images rules (token ∷ tokens) some =
+shown-images : (rules : Rules) (rule : PlainHostRule) (tokens : List PlainToken) → has_no_empty_text tokens ≡ true
+    → list_all (shows_only (permits_name rules)) (flat_map (image_of rules rule) tokens) ≡ true
+shown-images rules rule [] some = refl
+shown-images rules rule (token ∷ tokens) some =
     let parts = and_parts (is_some_token token) (has_no_empty_text tokens) some in
-    all-append (shows_only (permits_name rules)) (image_of rules token) (flat_map (image_of rules) tokens)
-    (shown-image rules token parts.0) (shown-images rules tokens parts.1)
+    all-append (shows_only (permits_name rules)) (image_of rules rule token) (flat_map (image_of rules rule) tokens)
+    (shown-image rules rule token parts.0) (shown-images rules rule tokens parts.1)
 
 -- texts stay, none of which is empty where none was, and tags of permitted elements
-pub kept_is_shown : (rules : Rules) (tokens : List PlainToken) → has_no_empty_text tokens ≡ true
-    → list_all (shows_only (permits_name rules)) (without_foreign rules tokens) ≡ true
+pub kept_is_shown : (rules : Rules) (rule : PlainHostRule) (tokens : List PlainToken) → has_no_empty_text tokens ≡ true
+    → list_all (shows_only (permits_name rules)) (without_foreign rules rule tokens) ≡ true
 unfolding without_foreign
-kept_is_shown rules tokens some = shown-joined (permits_name rules) (flat_map (image_of rules) tokens) (shown-images rules tokens some)
+kept_is_shown rules rule tokens some = shown-joined (permits_name rules) (flat_map (image_of rules rule) tokens) (shown-images rules rule tokens some)

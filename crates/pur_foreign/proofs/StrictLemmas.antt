@@ -1,11 +1,10 @@
 -- Styles of Strict, as bytes and as characters.
-use Rattle.std.proofs.Common.{◌≡◌, ◌<◌, ℕ, length, arith, List, [], ◌∷◌, ◌++◌, ap, ◌∙◌, refl, Some, None, codes}
+use Rattle.std.proofs.Common.{◌≡◌, ℕ, List, [], ◌∷◌, ◌++◌, ap, ◌∙◌, refl, Some, None, codes}
 use Rattle.std.specs.Prelude.{IfSome}
 use Rattle.std.specs.Option.{option_map}
 use Rattle.std.specs.Str.{chars, IsUtf8}
 use Rattle.pur_laws.proofs.Texts.{bytes_eq-ascii}
-use Rattle.pur_tokens.specs.Attributes.{Attribute, value_of, with_value}
-use Rattle.pur_foreign.specs.Strict.{size_named, declaration, with_style, text_or_none}
+use Rattle.pur_foreign.specs.Strict.{size_named, declaration}
 
 -- characters name the size that their bytes name
 pub size-chars : (text : List ℕ) → IsUtf8 text → size_named (chars text) ≡ size_named text
@@ -42,9 +41,3 @@ declared style new p v colon semicolon is_colon is_semicolon e = e ∙ rw (is_co
 -- the three declarations of a font
 pub three-parts : (s0 s1 s2 s3 d1 d2 d3 : List ℕ) → s0 ≡ [] → s1 ≡ s0 ++ d1 → s2 ≡ s1 ++ d2 → s3 ≡ s2 ++ d3 → s3 ≡ d1 ++ d2 ++ d3
 three-parts s0 s1 s2 s3 d1 d2 d3 e0 e1 e2 e3 = e3 ∙ ap (λ l. l ++ d3) (e2 ∙ ap (λ l. l ++ d2) (e1 ∙ ap (λ l. l ++ d1) e0))
-
--- a style that isn't empty is put in front
-pub styled : (style : List ℕ) (attrs : List Attribute) → 0 < length style
-    → with_style style attrs ≡ with_value attrs (codes "style") (style ++ text_or_none (value_of attrs (codes "style")))
-styled [] attrs some = absurd (omega arith)
-styled (c ∷ style) attrs some = refl

@@ -7,6 +7,7 @@ use Rattle.pur_tokens.specs.Joining.{held_before}
 use Rattle.pur_tokens.specs.Tokens.{PlainToken, end_token}
 use Rattle.pur_tokens.specs.declared.tokens.Tag.{Tag}
 use Rattle.pur_settings.specs.Rules.{Rules}
+use Rattle.pur_urigate.specs.HostRules.{PlainHostRule}
 use Rattle.pur_foreign.specs.Removal.{without_foreign}
 
 -- the tag that stays of another, as the token that `tag` makes of it, or none
@@ -20,5 +21,5 @@ ends_kept None = []
 ends_kept (Some name) = end_token (text_of name) ∷ []
 
 -- what stays of tokens, behind a token that is held, where there is one
-unfoldable pub kept_behind : Rules → Option PlainToken → List PlainToken → List PlainToken
-kept_behind rules held tokens = held_before held (without_foreign rules tokens)
+unfoldable pub kept_behind : Rules → PlainHostRule → Option PlainToken → List PlainToken → List PlainToken
+kept_behind rules rule held tokens = held_before held (without_foreign rules rule tokens)

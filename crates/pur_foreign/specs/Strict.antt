@@ -5,7 +5,8 @@ use Rattle.std.specs.Str.{bytes_eq}
 use Rattle.pur_names.specs.declared.elements.Element.{Element}
 use Rattle.pur_names.specs.declared.elements.Element.TheVariants.{Center, Dir, Div, Font, Menu, S, Span, Strike, U, Ul}
 use Rattle.pur_text.specs.Trimming.{trimmed}
-use Rattle.pur_tokens.specs.Attributes.{Attribute, value_of, with_value, without}
+use Rattle.pur_tokens.specs.Attributes.{Attribute, value_of, without}
+use Rattle.pur_tokens.specs.Styles.{with_style}
 
 -- the element that stands in Strict for another
 abbrev pub strict_element : Element → Element
@@ -61,16 +62,6 @@ style_text element attrs = []
 abbrev pub attributes_left : Element → List Attribute → List Attribute
 attributes_left Font attrs = without (without (without attrs (codes "color")) (codes "face")) (codes "size")
 attributes_left element attrs = attrs
-
--- the value that is there, or the empty text
-abbrev pub text_or_none : Option (List ℕ) → List ℕ
-text_or_none None = []
-text_or_none (Some text) = text
-
--- a style in front of that which attributes have; the empty style changes nothing
-abbrev pub with_style : List ℕ → List Attribute → List Attribute
-with_style [] attrs = attrs
-with_style style attrs = with_value attrs (codes "style") (style ++ text_or_none (value_of attrs (codes "style")))
 
 -- the attributes that Strict has in place of those of an element
 abbrev pub strict_attributes : Element → List Attribute → List Attribute

@@ -6,5 +6,8 @@ mod laws;
 mod removal;
 mod strict;
 
-pub use laws::{kept_is_joined, kept_is_permitted, removal_keeps_allowed, removal_keeps_texts};
+pub use laws::{
+    kept_is_joined, kept_is_permitted, kept_pictures_have_sources, permitted_stays,
+    removal_keeps_allowed, removal_keeps_texts,
+};
 pub use removal::{Removal, remove_foreign};

@@ -7,6 +7,8 @@ ghost use Rattle.pur_tokens.specs.Attributes.{Attribute};
 ghost use Rattle.pur_names.specs.Elements.{element_name, element_named};
 ghost use Rattle.pur_tokens.specs.Joining.{tokens_given};
 ghost use Rattle.pur_foreign.specs.Removal.{element_in, attributes_in, is_admitted, tag_image, end_image, image_of, without_foreign};
+ghost use Rattle.pur_siterule.specs.Uses.{has_source};
+ghost use Rattle.pur_urigate.specs.HostRules.{PlainHostRule};
 ghost use Rattle.pur_foreign.specs.Keeping.{tags_kept, ends_kept, kept_behind};
 ghost use Rattle.pur_settings.specs.Rules.{Rules};
 
@@ -14,29 +16,33 @@ use crate::strict::{strict_attributes, strict_element};
 use pur_modules::Doctype;
 use pur_names::Element;
 use pur_settings::Settings;
+use pur_siterule::read_uri;
 use pur_tokens::{AttrList, Joiner, Tag, Token};
+use pur_urigate::{UriGate, UriTest, UriUse};
 use std::alloc::{AllocError, Global};
 use std::marker::Model;
 use std::mem;
 
 /// Removes foreign elements from a list of tokens: comments and hidden content, the tags of elements that the settings
-/// don't permit, and images, until URIs can be read. In Strict the elements that Transitional alone has give way to others
-/// with a style. Texts that become neighbours are joined.
+/// don't permit, and each `img` whose `src` isn't there or may not be embedded: it must be read as a URI, its scheme must be
+/// permitted or absent and be one that a browser fetches, and the gate must admit it. In Strict the elements that Transitional
+/// alone has give way to others with a style. Texts that become neighbours are joined.
 ///
 /// Takes one pass over the list. The error is want of memory; nothing is said of the list then.
 ///
 /// Source: the first strategy of HTML Purifier.
-pub fn remove_foreign(
+pub fn remove_foreign<F: UriTest>(
     alloc: Global,
     settings: &Settings,
+    gate: &UriGate<F>,
     tokens: &mut Vec<Token>,
 ) -> Result<(), AllocError>
-    ensures { OnOk result (map plain_token tokens.new.items ≡ without_foreign settings.now (map plain_token tokens.old.items)) }
+    ensures { OnOk result (map plain_token tokens.new.items ≡ without_foreign settings.now gate.now (map plain_token tokens.old.items)) }
 {
     let mut removal = Removal::new();
     let all = mem::replace(tokens, Vec::new(alloc));
     for token in all {
-        let given = removal.put(alloc, settings, token)?;
+        let given = removal.put(alloc, settings, gate, token)?;
         push_given(tokens, given)?;
     }
     let last = removal.finish();
@@ -74,7 +80,7 @@ impl Model for Removal {
 impl Removal {
     /// A removal before all tokens. It takes no memory.
     pub fn new() -> Removal
-        ensures { (rules : Rules) (tokens : List PlainToken) → kept_behind rules result tokens ≡ without_foreign rules tokens }
+        ensures { (rules : Rules) (rule : PlainHostRule) (tokens : List PlainToken) → kept_behind rules rule result tokens ≡ without_foreign rules rule tokens }
     {
         Removal {
             joiner: Joiner::new(),
@@ -84,16 +90,17 @@ impl Removal {
     /// Takes the next token, and gives the next of those that stay, if that is known.
     ///
     /// The error is want of memory; nothing is said of the removal then.
-    pub fn put(
+    pub fn put<F: UriTest>(
         &mut self,
         alloc: Global,
         settings: &Settings,
+        gate: &UriGate<F>,
         token: Token,
     ) -> Result<Option<Token>, AllocError>
         ensures { IfOk result (λ given. (more : List PlainToken) →
-            kept_behind settings.now self.old (plain_token token ∷ more) ≡ tokens_given given ++ kept_behind settings.now self.new more) }
+            kept_behind settings.now gate.now self.old (plain_token token ∷ more) ≡ tokens_given given ++ kept_behind settings.now gate.now self.new more) }
     {
-        let kept = kept_token(alloc, settings, token)?;
+        let kept = kept_token(alloc, settings, gate, token)?;
         match kept {
             Some(token) => {
                 let given = self.joiner.put(token)?;
@@ -105,7 +112,7 @@ impl Removal {
 
     /// Gives the last token that stays, behind all others.
     pub fn finish(self) -> Option<Token>
-        ensures { (rules : Rules) → kept_behind rules self [] ≡ tokens_given result }
+        ensures { (rules : Rules) (rule : PlainHostRule) → kept_behind rules rule self [] ≡ tokens_given result }
     {
         let mut joiner = self.joiner;
         joiner.take()
@@ -113,16 +120,21 @@ impl Removal {
 }
 
 // What stays of a token.
-fn kept_token(alloc: Global, settings: &Settings, token: Token) -> Result<Option<Token>, AllocError>
-    ensures { IfOk result (λ kept. tokens_given kept ≡ image_of settings.now (plain_token token)) }
+fn kept_token<F: UriTest>(
+    alloc: Global,
+    settings: &Settings,
+    gate: &UriGate<F>,
+    token: Token,
+) -> Result<Option<Token>, AllocError>
+    ensures { IfOk result (λ kept. tokens_given kept ≡ image_of settings.now gate.now (plain_token token)) }
 {
     match token {
         Token::Text(text) => Ok(Some(Token::Text(text))),
-        Token::Start(tag) => match kept_tag(alloc, settings, tag)? {
+        Token::Start(tag) => match kept_tag(alloc, settings, gate, tag)? {
             Some(tag) => Ok(Some(Token::Start(tag))),
             None => Ok(None),
         },
-        Token::Empty(tag) => match kept_tag(alloc, settings, tag)? {
+        Token::Empty(tag) => match kept_tag(alloc, settings, gate, tag)? {
             Some(tag) => Ok(Some(Token::Empty(tag))),
             None => Ok(None),
         },
@@ -135,9 +147,14 @@ fn kept_token(alloc: Global, settings: &Settings, token: Token) -> Result<Option
 }
 
 // What stays of a start tag or an empty tag.
-fn kept_tag(alloc: Global, settings: &Settings, tag: Tag) -> Result<Option<Tag>, AllocError>
+fn kept_tag<F: UriTest>(
+    alloc: Global,
+    settings: &Settings,
+    gate: &UriGate<F>,
+    tag: Tag,
+) -> Result<Option<Tag>, AllocError>
     ensures { IfOk result (λ kept. (make : List ℕ → List Attribute → PlainToken) →
-        tags_kept make kept ≡ tag_image settings.now make (element_named (text_of tag.name)) tag.attrs) }
+        tags_kept make kept ≡ tag_image settings.now gate.now make (element_named (text_of tag.name)) tag.attrs) }
 {
     let Tag { name, attrs } = tag;
     let element = match Element::from_name(name.as_str()) {
@@ -149,19 +166,47 @@ fn kept_tag(alloc: Global, settings: &Settings, tag: Tag) -> Result<Option<Tag>,
     if !settings.permits(kept) {
         return Ok(None);
     }
-    if !is_admitted(kept) {
+    let attrs = attributes_in(alloc, doctype, element, attrs)?;
+    let admitted = is_admitted(alloc, settings, gate, kept, &attrs)?;
+    if !admitted {
         return Ok(None);
     }
     let name = name_of(alloc, name, kept)?;
-    let attrs = attributes_in(alloc, doctype, element, attrs)?;
     Ok(Some(Tag { name, attrs }))
 }
 
-// Whether what an element shows can be admitted.
-fn is_admitted(element: Element) -> bool
-    ensures { result ≡ is_admitted element }
+// Whether what an element with these attributes shows can be admitted.
+fn is_admitted<F: UriTest>(
+    alloc: Global,
+    settings: &Settings,
+    gate: &UriGate<F>,
+    element: Element,
+    attrs: &AttrList,
+) -> Result<bool, AllocError>
+    ensures { IfOk result (λ admitted. admitted ≡ is_admitted settings.now gate.now element attrs.now) }
 {
-    !matches!(element, Element::Img)
+    match element {
+        Element::Img => has_source(alloc, settings, gate, attrs),
+        _ => Ok(true),
+    }
+}
+
+// Whether the source of a picture is there and may be embedded.
+fn has_source<F: UriTest>(
+    alloc: Global,
+    settings: &Settings,
+    gate: &UriGate<F>,
+    attrs: &AttrList,
+) -> Result<bool, AllocError>
+    ensures { IfOk result (λ has. has ≡ has_source settings.now gate.now attrs.now) }
+{
+    match attrs.get("src") {
+        Some(source) => {
+            let uri = read_uri(alloc, settings, gate, UriUse::Embed, source)?;
+            Ok(uri.is_some())
+        }
+        None => Ok(false),
+    }
 }
 
 // What stays of an end tag.

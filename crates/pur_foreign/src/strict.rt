@@ -5,11 +5,11 @@ ghost use Rattle.std.specs.Option.{option_map};
 ghost use Rattle.std.specs.Str.{chars};
 ghost use Rattle.pur_tokens.specs.Attributes.{value_of};
 ghost use Rattle.pur_tokens.specs.Texts.{text_of};
-ghost use Rattle.pur_foreign.specs.Strict.{strict_element, strict_attributes, style_text, attributes_left, with_style, font_style, declaration, size_named, size_of, text_or_none};
+ghost use Rattle.pur_foreign.specs.Strict.{strict_element, strict_attributes, style_text, attributes_left, font_style, declaration, size_named, size_of};
 
 use pur_names::Element;
 use pur_text::trim;
-use pur_tokens::AttrList;
+use pur_tokens::{AttrList, put_style};
 use std::alloc::{AllocError, Global};
 
 // The element that stands in Strict for another.
@@ -124,30 +124,5 @@ fn size_named(text: &str) -> Option<&'static str>
         "+1" => Some("larger"),
         "-1" => Some("smaller"),
         _ => None,
-    }
-}
-
-// Puts a style in front of that which the attributes have. The empty style changes nothing.
-fn put_style(attrs: &mut AttrList, style: String) -> Result<(), AllocError>
-    ensures { OnOk result (attrs.new ≡ with_style (text_of style) attrs.old) }
-{
-    if style.is_empty() {
-        return Ok(());
-    }
-    let style = style_before(style, attrs.get("style"))?;
-    attrs.set("style", style.as_str())?;
-    Ok(())
-}
-
-// A style, and behind it another, if there is one.
-fn style_before(mut style: String, other: Option<&str>) -> Result<String, AllocError>
-    ensures { IfOk result (λ both. text_of both ≡ text_of style ++ text_or_none (option_map (λ other. chars other.now) other.entry)) }
-{
-    match other {
-        Some(other) => {
-            style.push_str(other)?;
-            Ok(style)
-        }
-        None => Ok(style),
     }
 }

@@ -1,6 +1,6 @@
 -- What a text of allowed characters is cut into has allowed characters alone.
-use Rattle.std.proofs.Common.{◌≡◌, ℕ, zero, suc, ◌-◌, true, false, List, [], ◌∷◌, ◌++◌, length, drop, map, filter, Option, None, Some, IfSome, refl, sym, subst, ◌∙◌, arith}
-use Rattle.std.specs.Prelude.{Bool, if◌then◌else◌, ◌&&◌, ◌||◌, ◌==◌, not, option_map, codes}
+use Rattle.std.proofs.Common.{◌≡◌, ℕ, zero, suc, ◌-◌, true, List, [], ◌∷◌, length, drop, filter, Option, None, Some, IfSome, refl, ◌∙◌, arith}
+use Rattle.std.specs.Prelude.{Bool, ◌&&◌, ◌||◌, not, option_map, codes}
 use Rattle.std.specs.Char.{to_ascii_lowercase}
 use Rattle.std.specs.List.{list_all}
 use Rattle.std.proofs.lemmas.Bool.{and_parts, and_from}
@@ -8,62 +8,17 @@ use Rattle.std.proofs.lemmas.Bool.Decides.{nat_tests}
 use Rattle.std.proofs.lemmas.List.Folds.{list_all-map}
 use Rattle.pur_laws.proofs.Truth.{either}
 use Rattle.pur_laws.proofs.Lists.{all-append, all-drop, all-filter, all-weaker}
-use Rattle.pur_text.specs.Characters.{is_allowed, is_space}
+use Rattle.pur_text.specs.Characters.{is_allowed}
 use Rattle.pur_entities.specs.References.{decoded}
 use Rattle.pur_entities.proofs.ReferenceLemmas.{decoded-allowed}
 use Rattle.pur_tokens.specs.Attributes.{Attribute, is_same_text, without, first_of_names}
 use Rattle.pur_tokens.specs.Characters.{attribute_has_only, token_has_only}
 use Rattle.pur_tokens.specs.Joining.{is_some_token}
 use Rattle.pur_tokens.proofs.JoiningLaws.{only-joined}
-use Rattle.pur_tokens.specs.Tokens.{PlainToken, text_token, start_token, end_token, empty_token, hidden_token, comment_token}
+use Rattle.pur_tokens.specs.Tokens.{PlainToken, text_token, start_token, empty_token, hidden_token, comment_token}
 use Rattle.pur_lexer.specs.Places.{begins_with, begins_with_mark, is_character, run_to, rest_from}
-use Rattle.pur_lexer.specs.Tags.{
-  lowered,
-  is_letter,
-  ends_tag_name,
-  ends_attribute_name,
-  ends_gap,
-  ends_space,
-  ends_bare_value,
-  RawValue,
-  quoted_value,
-  bare_value,
-  raw_value,
-  ReadAttributes,
-  with_raw_value,
-  attribute_behind,
-  named_attribute,
-  attribute_at,
-  Step,
-  end_step,
-  attribute_step,
-  ends_with_slash,
-  step_behind,
-  step_of,
-  TagEnd,
-  with_attributes,
-  end_by_step,
-  tag_end_behind,
-  with_first_of_names,
-  tag_end,
-}
-use Rattle.pur_lexer.specs.Constructs.{
-  Construct,
-  dropped,
-  gives_one,
-  closed_by,
-  through_mark,
-  end_tag_of,
-  is_hiding,
-  is_end_mark,
-  hidden_of,
-  tag_by_end,
-  tag_of,
-  tag_or_text,
-  markup_of,
-  plain_text,
-  construct_of,
-}
+use Rattle.pur_lexer.specs.Tags.{lowered, is_letter, ends_tag_name, ends_attribute_name, ends_gap, ends_space, ends_bare_value, RawValue, quoted_value, bare_value, raw_value, ReadAttributes, with_raw_value, attribute_behind, named_attribute, attribute_at, Step, end_step, attribute_step, step_behind, step_of, TagEnd, with_attributes, end_by_step, tag_end_behind, with_first_of_names, tag_end}
+use Rattle.pur_lexer.specs.Constructs.{Construct, closed_by, through_mark, end_tag_of, is_hiding, is_end_mark, hidden_of, tag_by_end, tag_of, tag_or_text, markup_of, construct_of}
 use Rattle.pur_lexer.specs.Lexing.{given_behind, tokens_of}
 
 -- a text has allowed characters alone

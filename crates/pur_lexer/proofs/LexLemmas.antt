@@ -128,7 +128,7 @@ construct_of-rest c t = by (c == 0x3C) refl
     by false other = plain_text-rest c t other
 
 -- the constructs of a text are the first, and those of the text behind it
-given-first : (c : ℕ) (t : List ℕ) → given_behind 0 (c ∷ t) ≡ (construct_of (c ∷ t)).gives ++ given_behind 0 (construct_of (c ∷ t)).rest
+pub given-first : (c : ℕ) (t : List ℕ) → given_behind 0 (c ∷ t) ≡ (construct_of (c ∷ t)).gives ++ given_behind 0 (construct_of (c ∷ t)).rest
 unfolding given_behind
 given-first c t = given_rest (construct_of (c ∷ t)).gives (construct_of (c ∷ t)).rest t (construct_of-rest c t)
 

@@ -6,3 +6,4 @@ pub mod PlaceLemmas
 pub mod ReadingExamples
 pub mod TagLemmas
 pub mod TagEndLemmas
+pub mod WrittenLemmas

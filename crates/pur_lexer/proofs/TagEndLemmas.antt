@@ -158,10 +158,14 @@ by_step (end_step is_empty rest) t h = refl
 by_step (attribute_step read) t h =
     ap (option_map (with_attributes read.pairs)) (passed (length t - length read.rest) t ∙ ap (tag_end_behind 0) (at_rest read.rest t h))
 
-next_step : (cs bytes : List ℕ) → encode_utf8_all cs ≡ bytes → (length bytes ≡ 0 → ⊥) → tag_end_behind 0 cs ≡ end_by_step (step_of cs) (λ rest. tag_end_behind 0 rest)
+-- the first step leads to the text on which it goes on
+pub first_step : (c : ℕ) (t : List ℕ) → tag_end_behind 0 (c ∷ t) ≡ end_by_step (step_of (c ∷ t)) (λ rest. tag_end_behind 0 rest)
 unfolding tag_end_behind
+first_step c t = by_step (step_of (c ∷ t)) t (step_of-goes c t)
+
+next_step : (cs bytes : List ℕ) → encode_utf8_all cs ≡ bytes → (length bytes ≡ 0 → ⊥) → tag_end_behind 0 cs ≡ end_by_step (step_of cs) (λ rest. tag_end_behind 0 rest)
 next_step [] bytes e some = absurd (some (ap length (sym e)))
-next_step (c ∷ t) bytes e some = by_step (step_of (c ∷ t)) t (step_of-goes c t)
+next_step (c ∷ t) bytes e some = first_step c t
 
 -- attributes that are put behind others in two parts
 all_new-append : (attrs pairs more : List Attribute) → with_all_new attrs (pairs ++ more) ≡ with_all_new (with_all_new attrs pairs) more

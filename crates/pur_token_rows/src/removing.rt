@@ -1,8 +1,13 @@
 //! What stays of tokens in both doctypes, by the rules of removal.
 
+ghost use Rattle.pur_urigate.specs.Asking.{AnswersBy};
+
 use crate::notation::{shown, tokens_of};
 use pur_foreign::remove_foreign;
 use pur_settings::Settings;
+use pur_siterule::host_rule;
+use pur_uri::Uri;
+use pur_urigate::{HostRule, UriGate, UriTest};
 use std::alloc::Global;
 use std::test::Fail;
 
@@ -14,14 +19,30 @@ fn kept(alloc: Global, settings: &str, row: &str) -> Result<String, Fail> {
         return Err(Fail::new("the settings are too long"));
     }
     let settings = Settings::read(alloc, settings.as_bytes())?;
+    let own = host_rule(alloc, &settings)?;
+    let rule = host_rule(alloc, &settings)?;
+    kept_by(alloc, &settings, rule, |uri: &Uri| own.admits(uri), row)
+}
+
+// What stays of the tokens, where the filter answers by the rule of hosts.
+fn kept_by<F: UriTest + Drop>(
+    alloc: Global,
+    settings: &Settings,
+    rule: HostRule,
+    filter: F,
+    row: &str,
+) -> Result<String, Fail>
+    requires { AnswersBy F.may_ask F.answers filter rule }
+{
+    let gate = UriGate::new(rule, filter);
     let mut tokens = tokens_of(alloc, row)?;
-    remove_foreign(alloc, &settings, &mut tokens)?;
+    remove_foreign(alloc, settings, &gate, &mut tokens)?;
     let text = shown(alloc, tokens.as_slice())?;
     Ok(text)
 }
 
 // A name, the tokens, and what stays of them in either doctype.
-static IN_EITHER_DOCTYPE: [(&str, &str, &str); 12] = [
+static IN_EITHER_DOCTYPE: [(&str, &str, &str); 17] = [
     ("nothing", "", ""),
     (
         "comments_and_hidden_content_go",
@@ -45,9 +66,30 @@ static IN_EITHER_DOCTYPE: [(&str, &str, &str); 12] = [
         "[p class=|a| onclick=|b|][/p]",
     ),
     (
-        "no_image_is_admitted",
-        "'a'~[img src=|b|]~[img/]~'c'",
+        "an_image_without_a_source_goes",
+        "'a'~[img]~[img alt=|b|/]~'c'",
         "'ac'",
+    ),
+    (
+        "a_relative_source_stays",
+        "[img src=|b.png| alt=||/]~[img src=|../b|]",
+        "[img src=|b.png| alt=||/][img src=|../b|]",
+    ),
+    (
+        "a_scheme_is_known_in_capitals",
+        "[img src=|HTTP://A.org/b|/]",
+        "[img src=|HTTP://A.org/b|/]",
+    ),
+    (
+        "mail_is_no_source",
+        "'a'~[img src=|mailto:a@b.org|/]~'c'",
+        "'ac'",
+    ),
+    ("a_script_is_no_source", "[img src=|javascript:b|/]", ""),
+    (
+        "mail_may_be_linked_to",
+        "[a href=|mailto:a@b.org|]~[/a]",
+        "[a href=|mailto:a@b.org|][/a]",
     ),
     ("an_end_tag_shows_no_image", "[/img]", "[/img]"),
     ("neighbours_are_joined", "'a'~'b'~'c'", "'abc'"),
@@ -188,6 +230,62 @@ fn keeps_what_is_listed(rt: HostRuntime) -> Result<(), Fail> {
     for (settings, expected) in LISTED {
         let text = kept(rt.alloc(), settings, tokens)?;
         assert_eq!(rt; text.as_str(), expected, "at {settings}");
+    }
+    Ok(())
+}
+
+// A name, a text of settings, the source of an image, and whether the image stays under them.
+static SOURCES: [(&str, &str, &str, bool); 9] = [
+    ("any_host", "", "http://bad.com/a", true),
+    (
+        "a_denied_host",
+        "denied_hosts = ['bad.com']",
+        "http://bad.com/a",
+        false,
+    ),
+    (
+        "a_host_below_a_denied_one",
+        "denied_hosts = ['bad.com']",
+        "//www.bad.com/a",
+        false,
+    ),
+    (
+        "another_host",
+        "denied_hosts = ['bad.com']",
+        "http://good.com/a",
+        true,
+    ),
+    ("no_host", "denied_hosts = ['bad.com']", "/bad.com", true),
+    (
+        "a_host_outside",
+        "external = false\nhost = 'own.org'",
+        "http://good.com/a",
+        false,
+    ),
+    (
+        "a_scheme_that_isnt_permitted",
+        "schemes = ['https']",
+        "http://good.com/a",
+        false,
+    ),
+    (
+        "one_that_is",
+        "schemes = ['https']",
+        "https://good.com/a",
+        true,
+    ),
+    ("no_scheme", "schemes = []", "//good.com/a", true),
+];
+
+#[test]
+fn keeps_images_with_sources(rt: HostRuntime) -> Result<(), Fail> {
+    for (name, settings, source, stays) in SOURCES {
+        let mut row = String::from_str(rt.alloc(), "[img src=|")?;
+        row.push_str(source)?;
+        row.push_str("|/]")?;
+        let text = kept(rt.alloc(), settings, row.as_str())?;
+        let expected = if stays { row.as_str() } else { "" };
+        assert_eq!(rt; text.as_str(), expected, "at {name}");
     }
     Ok(())
 }

@@ -6,4 +6,4 @@ use Rattle.pur_foreign.specs.Keeping.{kept_behind}
 use Rattle.pur_foreign.proofs.removal.remove_foreign.Given as goal
 
 abbrev pub invariant-loop-token : goal.invariant-loop-token
-invariant-loop-token l = (more : List PlainToken) → map plain_token l.tokens.items ++ kept_behind l.settings l.removal more ≡ without_foreign l.settings (map plain_token l.yielded ++ more)
+invariant-loop-token g l = (more : List PlainToken) → map plain_token l.tokens.items ++ kept_behind l.settings l.gate l.removal more ≡ without_foreign l.settings l.gate (map plain_token l.yielded ++ more)

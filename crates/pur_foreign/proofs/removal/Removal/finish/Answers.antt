@@ -5,4 +5,4 @@ use Rattle.pur_foreign.proofs.RemovalLemmas.{kept-ended}
 use Rattle.pur_foreign.proofs.removal.Removal.finish.Goals as goal
 
 pub returns : goal.returns
-returns c = λ rules. ap (λ held. kept_behind rules held []) (sym (c.take.ensures.given ∙ c.self.view_is)) ∙ kept-ended rules c.take.result
+returns c = λ rules rule. ap (λ held. kept_behind rules rule held []) (sym (c.take.ensures.given ∙ c.self.view_is)) ∙ kept-ended rules rule c.take.result

@@ -5,4 +5,4 @@ use Rattle.pur_foreign.proofs.RemovalLemmas.{kept-begun}
 use Rattle.pur_foreign.proofs.removal.Removal.new.Goals as goal
 
 pub returns : goal.returns
-returns c = λ rules tokens. ap (λ held. kept_behind rules held tokens) c.new.ensures ∙ kept-begun rules tokens
+returns c = λ rules rule tokens. ap (λ held. kept_behind rules rule held tokens) c.new.ensures ∙ kept-begun rules rule tokens

@@ -8,13 +8,13 @@ use Rattle.pur_foreign.proofs.RemovalLemmas.{kept-next}
 use Rattle.pur_foreign.proofs.removal.Removal.put.Goals as goal
 
 pub returns-in_ok-given-in-Some : goal.returns-in_ok-given-in-Some
-returns-in_ok-given-in-Some c = λ more.
+returns-in_ok-given-in-Some g c = λ more.
     let kept : tokens_given c.in_ok-kept.kept ≡ plain_token c.in-Some.token ∷ [] = ap tokens_given c.in-Some.is in
-    ap (λ held. kept_behind c.args.settings.now held (plain_token c.args.token ∷ more)) (sym c.self.view_is)
-    ∙ kept-next c.args.settings.now _ _ (plain_token c.args.token) (plain_token c.in-Some.token ∷ []) (tokens_given c.in_ok-given-in-Some.given)
+    ap (λ held. kept_behind c.args.settings.now c.args.gate.now held (plain_token c.args.token ∷ more)) (sym c.self.view_is)
+    ∙ kept-next c.args.settings.now c.args.gate.now _ _ (plain_token c.args.token) (plain_token c.in-Some.token ∷ []) (tokens_given c.in_ok-given-in-Some.given)
     (sym kept ∙ c.in_ok-kept.ensures) (held-next _ _ (plain_token c.in-Some.token) (tokens_given c.in_ok-given-in-Some.given) c.in_ok-given-in-Some.ensures.given) more
 
 pub returns-in-None : goal.returns-in-None
-returns-in-None c = λ more.
+returns-in-None g c = λ more.
     let kept : tokens_given c.in_ok-kept.kept ≡ [] = ap tokens_given c.in-None.is in
-    kept-next c.args.settings.now c.args.self.now c.args.self.now (plain_token c.args.token) [] [] (sym kept ∙ c.in_ok-kept.ensures) (λ later. refl) more
+    kept-next c.args.settings.now c.args.gate.now c.args.self.now c.args.self.now (plain_token c.args.token) [] [] (sym kept ∙ c.in_ok-kept.ensures) (λ later. refl) more
