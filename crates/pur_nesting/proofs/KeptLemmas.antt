@@ -7,8 +7,9 @@ use Rattle.pur_names.specs.declared.elements.Element.{Element}
 use Rattle.pur_names.specs.declared.elements.Element.TheVariants.{Caption, P, Table, Tbody, Tfoot, Thead, Tr}
 use Rattle.pur_names.proofs.ElementLaws.{each_element}
 use Rattle.pur_modules.specs.Contents.{is_excluded, is_excluded_in}
+use Rattle.pur_tokens.specs.Attributes.{Attribute}
 use Rattle.pur_tree.specs.Nodes.{Nodes, no_nodes, text_first, elem_first}
-use Rattle.pur_tree.specs.Properties.{Holds, free, permitted, spellable}
+use Rattle.pur_tree.specs.Properties.{Holds, free, permitted, pictures, allowed}
 use Rattle.pur_nesting.specs.declared.permits.Permits.{Permits}
 use Rattle.pur_nesting.specs.Private.Keeping.{StaysInRepair}
 
@@ -68,8 +69,26 @@ permitted_stays permits p paragraph body = record {
   beside_rows = λ w s h. tt;
 }
 
-pub spellable_stays : (p : Permits) → StaysInRepair spellable p
-spellable_stays p = record {
+-- what is put in is no picture
+pub pictures_stay : (test : List Attribute → Bool) (p : Permits) → StaysInRepair (pictures test) p
+pictures_stay test p = record {
+  joined = λ w s t h k. tt;
+  paragraph = λ yes w attrs h. refl;
+  caption = λ w kids h. h;
+  head = λ yes w attrs h. refl;
+  foot = λ yes w attrs h. refl;
+  body = λ w attrs h. refl;
+  in_head = λ w kids h. h;
+  in_foot = λ w kids h. h;
+  out_of_head = λ w kids h. h;
+  out_of_foot = λ w kids h. h;
+  row = λ w attrs h. h;
+  in_row = λ w kids h. h;
+  beside_rows = λ w s h. tt;
+}
+
+pub allowed_stays : (p : Permits) → StaysInRepair allowed p
+allowed_stays p = record {
   joined = λ w s t h k. list_all-append is_allowed s t ∙ and_from _ _ h k;
   paragraph = λ yes w attrs h. refl;
   caption = λ w kids h. h;

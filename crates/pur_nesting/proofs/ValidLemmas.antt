@@ -81,8 +81,11 @@ letters_of_word d k (elem_first e kids f) w h =
     let inner = words_are_allowed d held (word_of (has_text_letter d held) kids) h.0 in
     (parts.0, letters_of_word d held kids inner h.1, letters_of_word d k f parts.1 h.2)
 
+pub valid_letters : (d : Doctype) (k : Content) (f : Nodes) → IsWord d k f → HaveWords d k f → Holds (letters d) k f
+valid_letters d k f w h = letters_of_word d k f (words_are_allowed d k (word_of (has_text_letter d k) f) w) h
+
 pub valid_settled : (d : Doctype) (k : Content) (f : Nodes) → IsWord d k f → HaveWords d k f → is_joined f ≡ true → IsSettled f
-valid_settled d k f w h j = words_settled d k f (letters_of_word d k f (words_are_allowed d k (word_of (has_text_letter d k) f) w) h) h j
+valid_settled d k f w h j = words_settled d k f (valid_letters d k f w h) h j
 
 -- what repair leaves is settled, and needs no repair
 pub nested_settled : (d : Doctype) (p : Permits) (k : Content) (f : Nodes) → Holds (letters d) k f → IsSettled (nested p f)

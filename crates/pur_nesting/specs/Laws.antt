@@ -6,10 +6,11 @@ use Rattle.pur_names.specs.declared.elements.Element.TheVariants.{P, Tbody}
 use Rattle.pur_modules.specs.declared.kinds.Content.{Content}
 use Rattle.pur_modules.specs.declared.kinds.Doctype.{Doctype}
 use Rattle.pur_models.specs.Laws.{takes_any_number}
+use Rattle.pur_tokens.specs.Attributes.{Attribute}
 use Rattle.pur_tree.specs.Forests.{IsForest}
 use Rattle.pur_tree.specs.Nodes.{Nodes, is_joined}
-use Rattle.pur_tree.specs.Properties.{Holds, letters, free, permitted}
-use Rattle.pur_tree.specs.Spelling.{is_spellable}
+use Rattle.pur_tree.specs.Properties.{Holds, letters, free, permitted, pictures}
+use Rattle.pur_tree.specs.Spelling.{has_allowed_characters}
 use Rattle.pur_tree.specs.Walks.{count_in_text}
 use Rattle.pur_tree.specs.Words.{IsWord, HaveWords}
 use Rattle.pur_nesting.specs.declared.permits.Permits.{Permits}
@@ -35,9 +36,14 @@ abbrev pub KeepsPermitted : Type 0
 KeepsPermitted = (permits : Element → Bool) (nodes : Nodes) → Holds (permitted permits) tt nodes
     → Holds (permitted permits) tt (nested (record { paragraph = permits P; tbody = permits Tbody }) nodes)
 
--- allowed characters and attributes that may stand in a tag stay so
-abbrev pub KeepsSpellable : Type 0
-KeepsSpellable = (p : Permits) (nodes : Nodes) → is_spellable nodes ≡ true → is_spellable (nested p nodes) ≡ true
+-- where the attributes of each picture pass a test, they do after repair
+abbrev pub KeepsPictures : Type 0
+KeepsPictures = (test : List Attribute → Bool) (p : Permits) (nodes : Nodes) → Holds (pictures test) tt nodes
+    → Holds (pictures test) tt (nested p nodes)
+
+-- texts and values of allowed characters stay so
+abbrev pub KeepsAllowed : Type 0
+KeepsAllowed = (p : Permits) (nodes : Nodes) → has_allowed_characters nodes ≡ true → has_allowed_characters (nested p nodes) ≡ true
 
 -- each character that isn't white space stands after repair as often as before, but for those that are lost with captions
 abbrev pub KeepsCounts : Type 0
@@ -61,6 +67,11 @@ GivesAWord = (doctype : Doctype) (p : Permits) (content : Content) (nodes : Node
 -- no texts are neighbours
 abbrev pub JoinsTexts : Type 0
 JoinsTexts = (p : Permits) (nodes : Nodes) → is_joined (nested p nodes) ≡ true
+
+-- nodes whose words are all in their languages are letters of their parents' contents, or white space
+abbrev pub WordsAreLetters : Type 0
+WordsAreLetters = (doctype : Doctype) (content : Content) (nodes : Nodes) → IsWord doctype content nodes
+    → HaveWords doctype content nodes → AreLetters doctype content nodes
 
 -- settled nodes stay as they are
 abbrev pub LeavesSettled : Type 0

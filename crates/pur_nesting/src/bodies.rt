@@ -1,6 +1,6 @@
 //! The bodies of a table: heads and feet become bodies, and runs of rows get bodies of their own.
 
-ghost use Rattle.std.specs.Prelude.{◌≡◌, true, false, [], ◌∷◌, IfOk, OnOk, if◌then◌else◌, string_bytes};
+ghost use Rattle.std.specs.Prelude.{◌≡◌, ◌&&◌, true, false, [], ◌∷◌, IfOk, OnOk, if◌then◌else◌, string_bytes};
 ghost use Rattle.std.specs.Str.{chars};
 ghost use Rattle.pur_names.specs.Elements.{same_element};
 ghost use Rattle.pur_names.specs.declared.elements.Element.TheVariants.{Tbody, Tr};
@@ -8,12 +8,14 @@ ghost use Rattle.pur_modules.specs.Groups.{is_among};
 ghost use Rattle.pur_tree.specs.Image.{nodes_of, node_before};
 ghost use Rattle.pur_tree.specs.Nodes.{PlainElem, plain_elem, Nodes, no_nodes, text_first, elem_first, nodes_append};
 ghost use Rattle.pur_nesting.specs.Private.Grouping.{pending};
+ghost use Rattle.pur_nesting.specs.Private.Handing.{has_head_or_foot};
 ghost use Rattle.pur_nesting.specs.Tables.{from_first_element, is_head_or_foot, as_body, as_bodies, runs_in_bodies, of_one_kind, has_child};
 
-use crate::pushing::{bare, push_all, push_elem, push_text};
+use crate::nesting::has_needed;
+use crate::pushing::{bare, push_all};
 use crate::roles::{Role, role_of};
 use pur_names::Element;
-use pur_tree::{Elem, Node};
+use pur_tree::{Elem, Node, push_elem, push_text_node};
 use std::alloc::{AllocError, Global};
 use std::mem;
 
@@ -101,14 +103,43 @@ fn push_as_body(
         ≡ nodes_append (nodes_of out.old.items) (as_bodies tbody (node_before node more))) }
 {
     match node {
-        Node::Text(text) => push_text(out, text)?,
+        Node::Text(text) => push_text_node(out, text)?,
         Node::Elem(elem) => push_body(alloc, tbody, out, elem)?,
     }
     Ok(())
 }
 
-/// The nodes with each head and foot as a body.
+fn has_head_or_foot(nodes: &[Node]) -> bool
+    ensures { result ≡ has_head_or_foot (nodes_of nodes.now) }
+{
+    for node in nodes {
+        if becomes_body(node) {
+            return true;
+        }
+    }
+    false
+}
+
+fn becomes_body(node: &Node) -> bool
+    ensures { (more : Nodes) → has_head_or_foot (node_before node.now more) ≡ (if result then true else has_head_or_foot more) }
+{
+    match node {
+        Node::Text(_) => false,
+        Node::Elem(elem) => is_head_or_foot(role_of(elem.name)),
+    }
+}
+
+/// The nodes with each head and foot as a body. Where there is none they are handed on.
 pub fn as_bodies(alloc: Global, tbody: bool, nodes: Vec<Node>) -> Result<Vec<Node>, AllocError>
+    ensures { IfOk result (λ out. nodes_of out.items ≡ as_bodies tbody (nodes_of nodes.items)) }
+{
+    if has_head_or_foot(&nodes) {
+        return each_as_body(alloc, tbody, nodes);
+    }
+    Ok(nodes)
+}
+
+fn each_as_body(alloc: Global, tbody: bool, nodes: Vec<Node>) -> Result<Vec<Node>, AllocError>
     ensures { IfOk result (λ out. nodes_of out.items ≡ as_bodies tbody (nodes_of nodes.items)) }
 {
     let mut out = Vec::new(alloc);
@@ -131,9 +162,9 @@ impl Runs {
         ensures { OnOk result ((more : Nodes) → pending self.new more ≡ pending self.old (text_first (chars (string_bytes text)) more)) }
     {
         if self.in_run {
-            push_text(&mut self.run, text)?;
+            push_text_node(&mut self.run, text)?;
         } else {
-            push_text(&mut self.done, text)?;
+            push_text_node(&mut self.done, text)?;
         }
         Ok(())
     }
@@ -250,11 +281,19 @@ fn is_body(node: &Node) -> bool
     }
 }
 
-/// Bodies of one kind: where there is a `tbody`, each run of rows is put into one too.
+// Whether bodies and rows stand beside each other.
+fn are_mixed(bodies: &[Node]) -> bool
+    ensures { result ≡ (has_child (Tbody ∷ []) (nodes_of bodies.now) && has_child (Tr ∷ []) (nodes_of bodies.now)) }
+{
+    has_body(bodies) && has_needed(Element::Tbody, bodies)
+}
+
+/// Bodies of one kind: where there is a `tbody`, each run of rows is put into one too. Where there is no row, or no `tbody`, they
+/// are handed on.
 pub fn of_one_kind(alloc: Global, bodies: Vec<Node>) -> Result<Vec<Node>, AllocError>
     ensures { IfOk result (λ out. nodes_of out.items ≡ of_one_kind (nodes_of bodies.items)) }
 {
-    if has_body(&bodies) {
+    if are_mixed(&bodies) {
         return runs_in_bodies(alloc, bodies);
     }
     Ok(bodies)

@@ -1,6 +1,6 @@
 //! Laws of nesting repair, each the contract of a function that does nothing.
 
-ghost use Rattle.pur_nesting.specs.Laws.{KeepsForests, KeepsLetters, KeepsFree, KeepsPermitted, KeepsSpellable, KeepsCounts, NeverMore, GivesWords, GivesAWord, JoinsTexts, LeavesSettled, IsSettling, ValidAreSettled, RepairsOnce};
+ghost use Rattle.pur_nesting.specs.Laws.{KeepsForests, KeepsLetters, KeepsFree, KeepsPermitted, KeepsPictures, KeepsAllowed, KeepsCounts, NeverMore, GivesWords, GivesAWord, JoinsTexts, WordsAreLetters, LeavesSettled, IsSettling, ValidAreSettled, RepairsOnce};
 ghost use Rattle.pur_nesting.specs.Rows.{DropsAnEmptyList, KeepsADefinition, JoinsNeighbours, PutsTheCaptionFirst, MakesAParagraph, LosesACaption, DropsABlankTable, PutsBodiesLast, MakesTheHeadABody, TakesTheRowsOfTheHead, MakesTheFootABody, PutsTheFootBeforeBodies, DropsAnEmptyTable, DropsRowsWithoutCells, KeepsAttributesOfAHead, TakesTheRowsOfAFoot, PutsRunsIntoBodies};
 
 /// Letters stay letters of their parent's content.
@@ -18,9 +18,14 @@ pub fn keeps_permitted()
     ensures { KeepsPermitted }
 {}
 
-/// Allowed characters stay alone in texts, and attributes that may stand in a tag stay so.
-pub fn keeps_spellable()
-    ensures { KeepsSpellable }
+/// No picture comes in, and pictures keep their attributes.
+pub fn keeps_pictures()
+    ensures { KeepsPictures }
+{}
+
+/// Texts and values of allowed characters stay so.
+pub fn keeps_allowed()
+    ensures { KeepsAllowed }
 {}
 
 /// Each character that isn't white space stands after repair or is lost with a caption.
@@ -47,6 +52,11 @@ pub fn gives_a_word()
 /// After repair no texts are neighbours.
 pub fn joins_texts()
     ensures { JoinsTexts }
+{}
+
+/// Nodes whose words are all in their languages are letters of their parents' contents, or white space.
+pub fn words_are_letters()
+    ensures { WordsAreLetters }
 {}
 
 /// Settled nodes stay as they are.

@@ -11,12 +11,12 @@ ghost use Rattle.pur_nesting.specs.Settled.{IsSettled};
 ghost use Rattle.pur_nesting.specs.Tables.{has_child};
 
 use crate::permits::Permits;
-use crate::pushing::{push_all, push_elem};
+use crate::pushing::push_all;
 use crate::settled::is_settled;
 use crate::tables::repaired_table;
 use pur_names::Element;
 use pur_settings::Settings;
-use pur_tree::{Elem, Forest, Node, Rule, is_table, walk_nodes};
+use pur_tree::{Elem, Forest, Node, Rule, is_table, push_elem, walk_nodes};
 use std::alloc::{AllocError, Global};
 
 /// Whether an element must have a child of some kind.
@@ -59,7 +59,8 @@ fn is_needed_node(parent: Element, node: &Node) -> bool
     }
 }
 
-fn has_needed(parent: Element, nodes: &[Node]) -> bool
+/// Whether one of the children is of those of which the parent needs one.
+pub fn has_needed(parent: Element, nodes: &[Node]) -> bool
     ensures { result ≡ has_child (needed_by parent) (nodes_of nodes.now) }
 {
     for node in nodes {

@@ -11,7 +11,7 @@ ghost use Rattle.pur_nesting.specs.Tables.{are_blank, as_bodies, table, table_of
 use crate::bodies::{as_bodies, of_one_kind};
 use crate::parts::{Parts, grouped};
 use crate::permits::Permits;
-use crate::pushing::{bare, push_all, single};
+use crate::pushing::{bare, chained, push_all, single, without_slack};
 use pur_names::Element;
 use pur_text::is_space;
 use pur_tokens::AttrList;
@@ -47,7 +47,8 @@ fn table(
     push_all(&mut children, columns)?;
     push_all(&mut children, heads)?;
     push_all(&mut children, feet)?;
-    push_all(&mut children, bodies)?;
+    let all = chained(children, bodies)?;
+    let children = without_slack(all);
     single(
         alloc,
         Elem {

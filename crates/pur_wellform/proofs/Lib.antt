@@ -15,4 +15,6 @@ pub mod TurnFacts
 pub mod StartFacts
 pub mod TextFacts
 pub mod ClosingFacts
-pub mod SpellableFacts
+pub mod PassingFacts
+pub mod AllowedFacts
+pub mod PictureFacts

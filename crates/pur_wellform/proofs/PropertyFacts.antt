@@ -1,8 +1,8 @@
 -- What holds of nodes each of which stands where it may.
-use Rattle.std.proofs.Common.{◌≤◌, List, [], arith}
+use Rattle.std.proofs.Common.{◌≤◌, List, [], ◌∷◌, arith}
 use Rattle.pur_names.specs.declared.elements.Element.{Element}
 use Rattle.pur_settings.specs.Rules.{Rules, permits_element}
-use Rattle.pur_tree.specs.Nodes.{Nodes, level_in}
+use Rattle.pur_tree.specs.Nodes.{Nodes, no_nodes, text_first, elem_first, level_in}
 use Rattle.pur_tree.specs.Properties.{Holds, permitted, letters, free}
 use Rattle.pur_wellform.specs.Search as search
 use Rattle.pur_wellform.specs.Standing.{Stands, nothing_stands, text_stands, element_stands}
@@ -35,3 +35,17 @@ is_closed rules n s = record {
   free = stands_free s;
   low = stands_low s;
 }
+
+-- and nodes of which all this holds stand where they may
+nodes_stand : (rules : Rules) (es : List Element) (n : Nodes) → Holds (permitted (permits_element rules)) tt n
+    → Holds (letters rules.doctype) (search.content_in rules es) n → Holds free es n → level_in (search.standing_in es) n ≤ 128 → Stands rules es n
+nodes_stand rules es no_nodes p l f low = nothing_stands
+nodes_stand rules es (text_first s n) p l f low = text_stands (record { holds = l.0 }) (nodes_stand rules es n p.1 l.1 f.1 low)
+nodes_stand rules es (elem_first e kids n) p l f low =
+    element_stands
+    (record { permitted = p.0; letter = l.0; free = f.0; low = omega (arith, low) })
+    (nodes_stand rules (e.name ∷ es) kids p.1 l.1 f.1 (omega (arith, low)))
+    (nodes_stand rules es n p.2 l.2 f.2 (omega (arith, low)))
+
+pub closed_stand : (rules : Rules) (n : Nodes) → IsClosed rules n → Stands rules [] n
+closed_stand rules n c = nodes_stand rules [] n c.permitted c.letters c.free c.low

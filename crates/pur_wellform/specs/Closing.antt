@@ -1,8 +1,8 @@
 -- Closing: tags and texts become a flat list in which each element ends and stands where its parent allows it, and
 -- formatting that is cut off by a block goes on in it (the second strategy of HTML Purifier).
 use Rattle.std.specs.Prelude.{ℕ, ◌+◌, ◌-◌, Bool, true, false, List, [], ◌∷◌, ◌++◌, map, filter, reverse, length, take, drop, Option, Some, None, if◌then◌else◌, not, ◌&&◌, ◌||◌, nat_le, suc}
-use Rattle.std.specs.List.{list_any, list_all}
-use Rattle.pur_text.specs.Characters.{is_space, is_blank}
+use Rattle.std.specs.List.{list_any}
+use Rattle.pur_text.specs.Characters.{is_blank}
 use Rattle.pur_names.specs.Elements.{element_named, same_element}
 use Rattle.pur_names.specs.declared.elements.Element.{Element}
 use Rattle.pur_names.specs.declared.elements.Element.TheVariants.{B, Big, Code, Em, Font, I, S, Small, Strike, Strong, Tt, U}

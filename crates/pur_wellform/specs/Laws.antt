@@ -1,18 +1,22 @@
 -- The laws of closing.
-use Rattle.std.specs.Prelude.{ℕ, ◌+◌, ◌≤◌, ◌≡◌, true, List, [], map, length}
+use Rattle.std.specs.Prelude.{ℕ, ◌+◌, ◌≤◌, ◌≡◌, Bool, true, List, [], map, length}
 use Rattle.std.specs.List.{list_all}
 use Rattle.pur_names.specs.Elements.{element_name}
+use Rattle.pur_tokens.specs.Attributes.{Attribute}
+use Rattle.pur_text.specs.Characters.{is_allowed}
+use Rattle.pur_tokens.specs.Characters.{token_has_only}
+use Rattle.pur_tokens.specs.Pictures.{has_good_picture}
 use Rattle.pur_tokens.specs.Tokens as read
 use Rattle.pur_settings.specs.Rules.{Rules, permits_element}
 use Rattle.pur_tree.specs.Nodes.{Nodes, is_sound, is_joined, level_of}
 use Rattle.pur_tree.specs.Places.{level_limit}
-use Rattle.pur_tree.specs.Properties.{Holds, permitted, letters, free}
+use Rattle.pur_tree.specs.Properties.{Holds, permitted, letters, free, pictures}
 use Rattle.pur_tree.specs.Tokens.{Token, text_token, start_token, end_token, empty_token, tree_of, tokens_of_nodes, count_in_written, IsTreeOf}
 use Rattle.pur_tokens.specs.Joining.{count_in_text}
 use Rattle.pur_tokens.specs.Texts.{times}
 use Rattle.pur_wellform.specs.Closing.{closed, lost_in_closing, paid, steps, first_state, pending_limit, allowance}
-use Rattle.pur_tree.specs.Spelling.{is_spellable}
-use Rattle.pur_wellform.specs.Standing.{is_spellable_read, can_be_closed, Stands}
+use Rattle.pur_tree.specs.Spelling.{has_allowed_characters}
+use Rattle.pur_wellform.specs.Standing.{can_be_closed, Stands}
 use Rattle.pur_wellform.specs.Invariants.{GoodRun}
 
 -- in the tree of what closing writes each node stands where it may
@@ -36,6 +40,10 @@ pub record IsClosed (rules : Rules) (nodes : Nodes) : Type 0 where
 
 abbrev pub StandsClosed : Type 0
 StandsClosed = (rules : Rules) (nodes : Nodes) → Stands rules [] nodes → IsClosed rules nodes
+
+-- nodes of which all this holds stand where they may
+abbrev pub IsClosedStands : Type 0
+IsClosedStands = (rules : Rules) (nodes : Nodes) → IsClosed rules nodes → Stands rules [] nodes
 
 -- at no time do more wait than their limit: the tokens may end anywhere
 abbrev pub FewArePending : Type 0
@@ -64,7 +72,13 @@ abbrev pub ClosedLedger : Type 0
 ClosedLedger = (rules : Rules) (tokens : List read.PlainToken) (c : ℕ)
     → count_in_written c (closed rules tokens) + times c (lost_in_closing rules tokens) ≡ count_in_text c tokens
 
--- what closing leaves may be spelled, where the tokens may
-abbrev pub ClosedIsSpellable : Type 0
-ClosedIsSpellable = (rules : Rules) (tokens : List read.PlainToken) (nodes : Nodes) → list_all is_spellable_read tokens ≡ true
-    → IsTreeOf nodes (closed rules tokens) → is_spellable nodes ≡ true
+-- what closing leaves has allowed characters alone in its texts and values, where the tokens have
+abbrev pub ClosedIsAllowed : Type 0
+ClosedIsAllowed = (rules : Rules) (tokens : List read.PlainToken) (nodes : Nodes) → list_all (token_has_only is_allowed) tokens ≡ true
+    → IsTreeOf nodes (closed rules tokens) → has_allowed_characters nodes ≡ true
+
+-- in the tree of what closing leaves the attributes of each picture pass a test, where those of each picture that is read do: a
+-- picture is neither wrapper nor formatting, so none is put in or opened again
+abbrev pub ClosedKeepsPictures : Type 0
+ClosedKeepsPictures = (test : List Attribute → Bool) (rules : Rules) (tokens : List read.PlainToken) (nodes : Nodes)
+    → list_all (has_good_picture test) tokens ≡ true → IsTreeOf nodes (closed rules tokens) → Holds (pictures test) tt nodes

@@ -1,14 +1,13 @@
 -- What is known inside open elements, and where the place of an element or a text is. Open elements are given innermost
 -- first; where none is open stands the fragment itself (own rules, after the second strategy of HTML Purifier).
 use Rattle.std.specs.Prelude.{ℕ, Bool, List, [], ◌∷◌, Option, Some, None, if◌then◌else◌, not, ◌&&◌, suc}
-use Rattle.std.specs.List.{list_any}
 use Rattle.pur_names.specs.Elements.{same_element}
 use Rattle.pur_names.specs.declared.elements.Element.{Element}
 use Rattle.pur_names.specs.declared.elements.Element.TheVariants.{Caption, Col, Colgroup, Table, Tbody, Td, Tfoot, Th, Thead, Tr}
 use Rattle.pur_modules.specs.declared.kinds.Child.{Child}
 use Rattle.pur_modules.specs.declared.kinds.Child.TheVariants.{Elem}
 use Rattle.pur_modules.specs.declared.kinds.Content.{Content}
-use Rattle.pur_modules.specs.Contents.{content_held, is_excluded}
+use Rattle.pur_modules.specs.Contents.{content_held}
 use Rattle.pur_modules.specs.Expressions.{is_letter}
 use Rattle.pur_modules.specs.Groups.{is_among}
 use Rattle.pur_modules.specs.Wrappers.{wrapper_of}

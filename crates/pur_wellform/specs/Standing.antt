@@ -2,41 +2,17 @@
 use Rattle.std.specs.Prelude.{ℕ, ◌≤◌, ◌≡◌, Bool, true, false, List, ◌∷◌, ◌||◌}
 use Rattle.pur_names.specs.declared.elements.Element.{Element}
 use Rattle.pur_modules.specs.declared.kinds.Child.TheVariants.{Text, Elem}
-use Rattle.pur_modules.specs.declared.kinds.Content.{Content}
-use Rattle.pur_modules.specs.declared.kinds.Doctype.{Doctype}
-use Rattle.pur_modules.specs.Contents.{content_held, is_excluded_in}
-use Rattle.pur_modules.specs.Expressions.{is_letter}
-use Rattle.pur_text.specs.Characters.{is_allowed, is_blank}
-use Rattle.pur_tokens.specs.Tokens.{PlainToken, shows_only, text_token, start_token, empty_token}
+use Rattle.pur_modules.specs.Contents.{is_excluded_in}
+use Rattle.pur_text.specs.Characters.{is_blank}
+use Rattle.pur_tokens.specs.Tokens.{PlainToken, shows_only}
 use Rattle.pur_settings.specs.Rules.{Rules, permits_element, permits_name}
 use Rattle.pur_tree.specs.Nodes.{PlainElem, Nodes, no_nodes, text_first, elem_first}
 use Rattle.pur_tree.specs.Places.{level_limit}
-use Rattle.pur_tree.specs.Spelling.{are_spellable}
-use Rattle.pur_tree.specs.Tokens as written
-use Rattle.std.specs.List.{list_all}
 use Rattle.pur_wellform.specs.Search.{allows, level_in}
 
 -- whether a token may be closed: each tag names a permitted element, no text is empty, and hidden content and comments are gone
 abbrev pub can_be_closed : Rules → PlainToken → Bool
 can_be_closed rules token = shows_only (permits_name rules) token
-
--- whether the attributes of an element may be spelled
-abbrev pub is_spellable_tag : PlainElem → Bool
-is_spellable_tag tag = are_spellable tag.attrs
-
--- whether a token that is read may be spelled: its text has allowed characters alone, and its attributes may stand in a tag
-abbrev pub is_spellable_read : PlainToken → Bool
-is_spellable_read (text_token text) = list_all is_allowed text
-is_spellable_read (start_token name attrs) = are_spellable attrs
-is_spellable_read (empty_token name attrs) = are_spellable attrs
-is_spellable_read token = true
-
--- the same of a token that is written
-abbrev pub is_spellable_written : written.Token → Bool
-is_spellable_written (written.text_token text) = list_all is_allowed text
-is_spellable_written (written.start_token element) = is_spellable_tag element
-is_spellable_written (written.empty_token element) = is_spellable_tag element
-is_spellable_written (written.end_token name) = true
 
 -- an element may stand directly inside of open ones, which are given innermost first: it is permitted, a letter of the content
 -- there, excluded by none of them, and its level is within the limit

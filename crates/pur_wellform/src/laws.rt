@@ -1,5 +1,5 @@
 //! Laws of closing, each the contract of a function that does nothing.
-ghost use Rattle.pur_wellform.specs.Laws.{ClosedStands, StandsClosed, EveryPrefixIsGood, FewArePending, PaysLittle, ClosedAsItself, ClosedLedger, ClosedIsSpellable};
+ghost use Rattle.pur_wellform.specs.Laws.{ClosedStands, StandsClosed, IsClosedStands, EveryPrefixIsGood, FewArePending, PaysLittle, ClosedAsItself, ClosedLedger, ClosedIsAllowed, ClosedKeepsPictures};
 ghost use Rattle.pur_wellform.specs.Rows.{CarriesPastAnEnd, CarriesIntoABlock, WrapsTextInAnItem, DropsACellWithoutTable, DropsTextInATable, LosesTextInATable, DropsALinkInALink, DropsAnImageInPre, ClosesRoundABlock, ImpliesWhatIsPermitted, WrapsTextInAParagraph, CarriesNothingOutOfACell, StopsAtTheLimit, CountsARowForTwo};
 
 /// In the tree of what closing writes each node stands where it may.
@@ -11,6 +11,12 @@ pub fn closed_stands()
 /// excludes it, and has no level past the limit.
 pub fn stands_closed()
     ensures { StandsClosed }
+{}
+
+/// Nodes that are permitted, letters of their parents' contents, in nothing that excludes them and within the limit stand where
+/// they may.
+pub fn is_closed_stands()
+    ensures { IsClosedStands }
 {}
 
 /// Wherever the tokens end, what was written stands where it may, and what waits and what was paid is within its limit.
@@ -38,10 +44,14 @@ pub fn closed_ledger()
     ensures { ClosedLedger }
 {}
 
-/// What closing leaves may be spelled, where the texts that it reads have allowed characters alone and the attributes may stand
-/// in a tag.
-pub fn closed_is_spellable()
-    ensures { ClosedIsSpellable }
+/// What closing leaves has allowed characters alone in its texts and values, where the tokens that it reads have.
+pub fn closed_is_allowed()
+    ensures { ClosedIsAllowed }
+{}
+
+/// What closing leaves has pictures whose attributes pass a test alone, where the tags of pictures that it reads do.
+pub fn closed_keeps_pictures()
+    ensures { ClosedKeepsPictures }
 {}
 
 /// Worked examples of the definition.

@@ -13,6 +13,7 @@ mod tests;
 
 pub use closing::{Closing, make_wellformed};
 pub use laws::{
-    closed_as_itself, closed_is_spellable, closed_ledger, closed_stands, every_prefix_is_good,
-    few_are_pending, pays_little, stands_closed, worked_examples,
+    closed_as_itself, closed_is_allowed, closed_keeps_pictures, closed_ledger, closed_stands,
+    every_prefix_is_good, few_are_pending, is_closed_stands, pays_little, stands_closed,
+    worked_examples,
 };

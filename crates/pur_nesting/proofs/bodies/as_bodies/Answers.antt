@@ -1,13 +1,10 @@
-use Rattle.std.proofs.Common.{ap, sym, ◌∙◌}
+use Rattle.std.proofs.Common.{◌≡◌, false, sym}
 use Rattle.pur_tree.specs.Image.{nodes_of}
-use Rattle.pur_tree.specs.Nodes.{nodes_append}
-use Rattle.pur_tree.proofs.NodesLemmas.{nodes_append-none}
-use Rattle.pur_nesting.specs.Tables.{as_bodies}
-use Rattle.pur_tree.proofs.PushLemmas.{none_left}
+use Rattle.pur_nesting.specs.Private.Handing.{has_head_or_foot}
+use Rattle.pur_nesting.proofs.HandingLemmas.{same_bodies}
 use Rattle.pur_nesting.proofs.bodies.as_bodies.Goals as goal
 
 pub returns : goal.returns
 returns c =
-    sym (nodes_append-none (nodes_of c.loop-node.out.items))
-    ∙ ap (λ xs. nodes_append (nodes_of c.loop-node.out.items) (as_bodies c.args.tbody (nodes_of xs))) (sym (none_left c.loop-node.node-iterator c.in-None.ensures.steps.0))
-    ∙ c.loop-node.invariant
+    let none : has_head_or_foot (nodes_of c.args.nodes.items) ≡ false = rw (← c.deref.ensures.value) (sym c.if-has_head_or_foot.ensures) in
+    same_bodies c.args.tbody (nodes_of c.args.nodes.items) none

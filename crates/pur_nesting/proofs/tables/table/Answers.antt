@@ -12,9 +12,10 @@ returns c =
     let feet = nodes_of parts.feet.items in
     let heads = nodes_of parts.heads.items in
     let columns = nodes_of parts.columns.items in
-    let kids : nodes_of c.push_all-5.new.out.items ≡ nodes_append (nodes_of parts.lead.items) (nodes_append (nodes_of parts.captions.items) (nodes_append columns (nodes_append heads (nodes_append feet body)))) =
-    sym (nodes_append-none (nodes_of c.push_all-5.new.out.items))
-    ∙ c.in_ok-push_all-5.ensures no_nodes
+    let kids : nodes_of c.without_slack-children.result.items ≡ nodes_append (nodes_of parts.lead.items) (nodes_append (nodes_of parts.captions.items) (nodes_append columns (nodes_append heads (nodes_append feet body)))) =
+    ap nodes_of c.without_slack-children.ensures
+    ∙ sym (nodes_append-none (nodes_of c.in_ok-all.all.items))
+    ∙ c.in_ok-all.ensures no_nodes
     ∙ ap (nodes_append (nodes_of c.push_all-4.new.out.items)) (nodes_append-none _ ∙ c.in_ok-bodies-2.ensures ∙ ap of_one_kind c.in_ok-bodies.ensures)
     ∙ c.in_ok-push_all-4.ensures body
     ∙ c.in_ok-push_all-3.ensures (nodes_append feet body)

@@ -3,7 +3,7 @@ use Rattle.std.specs.Vec.Iter.{into_iter_items}
 use Rattle.pur_tree.specs.Nodes.{nodes_append}
 use Rattle.pur_tree.specs.Image.{nodes_of}
 use Rattle.pur_nesting.specs.Tables.{as_bodies}
-use Rattle.pur_nesting.proofs.bodies.as_bodies.Given as goal
+use Rattle.pur_nesting.proofs.bodies.each_as_body.Given as goal
 
 abbrev pub invariant-loop-node : goal.invariant-loop-node
 invariant-loop-node l =
