@@ -11,8 +11,10 @@ use Rattle.pur_tree.specs.Nodes.{Nodes, no_nodes, text_first, elem_first, level_
 use Rattle.pur_tree.specs.Places.{level_limit}
 use Rattle.pur_tree.specs.Properties.{Holds, free, permitted}
 use Rattle.pur_tree.specs.Words.{word_of, HaveWords}
-use Rattle.pur_reader.specs.Deciding.{are_word, are_right, are_valid}
+use Rattle.pur_urigate.specs.HostRules.{PlainHostRule}
+use Rattle.pur_reader.specs.Deciding.{are_word, are_right, have_valid_structure, have_valid_attributes, are_valid}
 use Rattle.pur_reader.specs.Validity.{IsValid}
+use Rattle.pur_reader.proofs.AttributeLemmas.{attributes-if, if-attributes}
 
 false_not : (b : Bool) → b ≡ false → not b ≡ true
 false_not b h = rw h refl
@@ -56,9 +58,10 @@ module _ (decided : WordsAreDecided) (rules : Rules) where
       let more = if-right content outer rest (record { words = r.words.2; free = r.free.2; permitted = r.permitted.2 }) in
       and_from _ _ (and_from _ _ word (and_from _ _ r.permitted.0 (false_not (is_excluded_in outer e.name) r.free.0))) (and_from _ _ inner more)
 
-  pub valid-if : (nodes : Nodes) → are_valid rules nodes ≡ true → IsValid rules nodes
-  valid-if nodes h =
-      let all = and_parts (are_word rules.doctype rules.parent nodes && are_right rules rules.parent [] nodes) _ h in
+  pub valid-if : (rule : PlainHostRule) (nodes : Nodes) → are_valid rules rule nodes ≡ true → IsValid rules rule nodes
+  valid-if rule nodes h =
+      let both = and_parts (have_valid_structure rules nodes) (have_valid_attributes rules rule nodes) h in
+      let all = and_parts (are_word rules.doctype rules.parent nodes && are_right rules rules.parent [] nodes) _ both.0 in
       let here = and_parts (are_word rules.doctype rules.parent nodes) (are_right rules rules.parent [] nodes) all.0 in
       let right = right-if rules.parent [] nodes here.1 in
       record {
@@ -67,10 +70,11 @@ module _ (decided : WordsAreDecided) (rules : Rules) where
         free = right.free;
         low = leb-true (level_of nodes) level_limit all.1;
         permitted = right.permitted;
+        attributes = attributes-if rules rule nodes both.1;
       }
 
-  pub if-valid : (nodes : Nodes) → IsValid rules nodes → are_valid rules nodes ≡ true
-  if-valid nodes v =
+  pub if-valid : (rule : PlainHostRule) (nodes : Nodes) → IsValid rules rule nodes → are_valid rules rule nodes ≡ true
+  if-valid rule nodes v =
       let word = (decided rules.doctype rules.parent (word_of (has_text_letter rules.doctype rules.parent) nodes)).1 v.word in
       let right = if-right rules.parent [] nodes (record { words = v.words; free = v.free; permitted = v.permitted }) in
-      and_from _ _ (and_from _ _ word right) (le-leb (level_of nodes) level_limit v.low)
+      and_from _ _ (and_from _ _ (and_from _ _ word right) (le-leb (level_of nodes) level_limit v.low)) (if-attributes rules rule nodes v.attributes)

@@ -1,34 +1,51 @@
--- What is valid of attributes under settings (XML 1.0, section 3.3; XHTML 1.0, the attribute lists of the two DTDs, and
+-- What is valid of attributes under settings and a rule of hosts (XML 1.0, section 3.3; XHTML 1.0, the attribute lists of the two DTDs, and
 -- section C.7 on `lang` and `xml:lang`).
 use Rattle.std.specs.Prelude.{ℕ, Bool, true, false, ◌≡◌, ◌&&◌, not, List, [], ◌∷◌, ◌++◌, take, length, Option, None, Some, codes}
 use Rattle.std.specs.List.{list_all, list_any}
-use Rattle.std.specs.Option.{option_and_then, option_map_or}
+use Rattle.std.specs.Option.{option_and_then, option_map, option_map_or}
 use Rattle.pur_names.specs.Attributes.{attr_name, attr_named}
 use Rattle.pur_names.specs.declared.attributes.Attr.{Attr}
+use Rattle.pur_names.specs.declared.attributes.Attr.TheVariants.{Cite, Href, Longdesc, Src, Style}
 use Rattle.pur_names.specs.declared.elements.Element.{Element}
 use Rattle.pur_modules.specs.AttributeLists.{required_of}
+use Rattle.pur_cssprops.specs.Styles.{style_read}
 use Rattle.pur_settings.specs.Rules.{Rules, permits_attribute}
+use Rattle.pur_siterule.specs.Uses.{uri_under}
+use Rattle.pur_uri.specs.Uris.{uri_text}
+use Rattle.pur_urigate.specs.HostRules.{PlainHostRule}
+use Rattle.pur_urigate.specs.declared.uses.UriUse.{UriUse}
+use Rattle.pur_urigate.specs.declared.uses.UriUse.TheVariants.{Embed, Link}
 use Rattle.pur_values.specs.Kinds.{kind_of}
 use Rattle.pur_values.specs.Values as values
 use Rattle.pur_tokens.specs.Attributes.{Attribute, is_same_text, has_name, value_of}
 use Rattle.pur_tree.specs.Nodes.{PlainElem, Nodes, no_nodes, text_first, elem_first}
 
--- what the value of an attribute on an element is read as; URIs and styles, which have no kind, aren't read yet
-abbrev pub value_on : Element → Attr → List ℕ → Option (List ℕ)
-value_on element attr raw = option_and_then (λ kind. values.value_of kind raw) (kind_of element attr)
+-- the canonical text of a URI, where it is admissible for a use under settings and a rule of hosts
+abbrev pub uri_on : Rules → PlainHostRule → UriUse → List ℕ → Option (List ℕ)
+uri_on rules rule purpose raw = option_map uri_text (uri_under rules rule purpose raw)
+
+-- what the value of an attribute on an element is read as: a link or a picture's source by its URI, a style by its declarations,
+-- any other by its kind
+abbrev pub value_on : Rules → PlainHostRule → Element → Attr → List ℕ → Option (List ℕ)
+value_on rules rule element Cite raw = uri_on rules rule Link raw
+value_on rules rule element Href raw = uri_on rules rule Link raw
+value_on rules rule element Longdesc raw = uri_on rules rule Link raw
+value_on rules rule element Src raw = uri_on rules rule Embed raw
+value_on rules rule element Style raw = style_read rules rule raw
+value_on rules rule element attr raw = option_and_then (λ kind. values.value_of kind raw) (kind_of element attr)
 
 -- whether a value is its own reading
-abbrev pub is_canonical : Element → Attr → List ℕ → Bool
-is_canonical element attr value = option_map_or (is_same_text value) (value_on element attr value) false
+abbrev pub is_canonical : Rules → PlainHostRule → Element → Attr → List ℕ → Bool
+is_canonical rules rule element attr value = option_map_or (is_same_text value) (value_on rules rule element attr value) false
 
 -- whether an attribute is declared and permitted on an element, and its value is its own reading
-abbrev pub is_valid_attribute : Rules → Element → Attribute → Bool
-is_valid_attribute rules element pair =
-    option_map_or (λ attr. permits_attribute rules element attr && is_canonical element attr pair.1) (attr_named pair.0) false
+abbrev pub is_valid_attribute : Rules → PlainHostRule → Element → Attribute → Bool
+is_valid_attribute rules rule element pair =
+    option_map_or (λ attr. permits_attribute rules element attr && is_canonical rules rule element attr pair.1) (attr_named pair.0) false
 
 -- whether an element's attributes are all so
-abbrev pub has_valid_values : Rules → PlainElem → Bool
-has_valid_values rules e = list_all (is_valid_attribute rules e.name) e.attrs
+abbrev pub has_valid_values : Rules → PlainHostRule → PlainElem → Bool
+has_valid_values rules rule e = list_all (is_valid_attribute rules rule e.name) e.attrs
 
 -- whether an element has the attributes that it must have
 abbrev pub has_required : PlainElem → Bool
@@ -72,8 +89,8 @@ are_different (text ∷ texts) = not (list_any (is_same_text text) texts) && are
 
 -- each attribute is declared and permitted, and each value is its own reading; required ones are there; `lang` and
 -- `xml:lang` are both absent, or both there and the same; each id begins with the prefix, and no two are the same
-pub record HasValidAttributes (rules : Rules) (nodes : Nodes) : Type 0 where
-  pub values : each_elem (has_valid_values rules) nodes ≡ true
+pub record HasValidAttributes (rules : Rules) (rule : PlainHostRule) (nodes : Nodes) : Type 0 where
+  pub values : each_elem (has_valid_values rules rule) nodes ≡ true
   pub required : each_elem has_required nodes ≡ true
   pub languages : each_elem has_one_language nodes ≡ true
   pub prefixed : list_all (has_prefix rules.id_prefix) (ids_of nodes) ≡ true

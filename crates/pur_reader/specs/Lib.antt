@@ -5,3 +5,4 @@ pub mod Deciding
 pub mod Rows
 pub mod AttributeRows
 pub mod Laws
+pub mod Private

@@ -1,11 +1,12 @@
 -- Worked examples of validity: what the filter writes for an input, and beside it a neighbour that one rule refuses.
-use Rattle.std.specs.Prelude.{ℕ, zero, suc, ◌≡◌, true, false, List, [], ◌∷◌, Some, codes}
+use Rattle.std.specs.Prelude.{ℕ, zero, suc, ◌≡◌, true, false, List, [], ◌∷◌, Some, None, codes}
 use Rattle.pur_names.specs.declared.elements.Element.{Element}
 use Rattle.pur_names.specs.declared.elements.Element.TheVariants.{A, B, Blockquote, Caption, Div, Ins, Li, P, Pre, Big, Table, Tbody, Td, Tfoot, Thead, Tr, Ul}
 use Rattle.pur_modules.specs.declared.kinds.Doctype.TheVariants.{Strict}
 use Rattle.pur_modules.specs.declared.kinds.Content.TheVariants.{Inline}
 use Rattle.pur_settings.specs.Rules.{Rules, default_rules}
 use Rattle.pur_tree.specs.Nodes.{Nodes, no_nodes, text_first, elem_first, nodes_append, bare}
+use Rattle.pur_urigate.specs.HostRules.{PlainHostRule}
 use Rattle.pur_reader.specs.Deciding.{are_valid}
 
 -- a text, an element with its children, and nodes one behind the other
@@ -30,10 +31,14 @@ strict = record default_rules { doctype = Strict }
 abbrev only : List Element → Rules
 only elements = record default_rules { elements = Some elements }
 
+-- no host is denied
+abbrev any_host : PlainHostRule
+any_host = record { denied = []; host = None; external = true }
+
 -- what is valid, and a neighbour that isn't
 pub record Beside (rules : Rules) (fragment neighbour : Nodes) : Type 0 where
-  pub valid : are_valid rules fragment ≡ true
-  pub other : are_valid rules neighbour ≡ false
+  pub valid : are_valid rules any_host fragment ≡ true
+  pub other : are_valid rules any_host neighbour ≡ false
 
 -- nothing, and text; text in what holds blocks alone
 abbrev pub TextInAFragment : Type 0

@@ -1,10 +1,18 @@
-//! Laws of validity, each the contract of a function that does nothing.
+//! Laws of spelling and of validity, each the contract of a function that does nothing.
 
-ghost use Rattle.pur_reader.specs.Laws.{ValidityIsDecided, AttributesAreDecided};
+ghost use Rattle.pur_reader.specs.Laws.{SpellingIsUnique, ValidityIsDecided, AttributesAreDecided};
 ghost use Rattle.pur_reader.specs.Rows.{TextInAFragment, BlocksInNoInline, ListsHaveItems, CaptionsComeFirst, TablesHaveBodies, FeetComeBeforeBodies, BodiesAreOfOneKind, CellsStandInRows, RowsHaveCells, LinksStandInNoLink, NothingBigInPre, EditsHoldWhatTheirParentHolds, StrictQuotesHoldBlocks, ElementsArePermitted, FragmentsHaveParents, LevelsEnd};
-ghost use Rattle.pur_reader.specs.AttributeRows.{AttributesAreDeclared, AttributesAreListed, ValuesAreReadAsThemselves, RequiredOnesAreThere, LanguagesAreTheSame, IdsNeedTheSetting, IdsHaveThePrefix, IdsAreDistinct};
+ghost use Rattle.pur_reader.specs.AttributeRows.{AttributesAreDeclared, AttributesAreListed, ValuesAreReadAsThemselves, RequiredOnesAreThere, LanguagesAreTheSame, IdsNeedTheSetting, IdsHaveThePrefix, IdsAreDistinct, LinksAreCanonical, PicturesHaveATextInTheirPlace, SourcesAreFetched, StylesAreCanonical};
 
 use pur_models::words_are_decided;
+use pur_tree::spells_at_most_one;
+
+/// Bytes are the spelling of at most one list of nodes.
+pub fn spelling_is_unique()
+    ensures { SpellingIsUnique }
+{
+    spells_at_most_one();
+}
 
 /// Nodes are valid exactly where a test that computes finds them so.
 pub fn validity_is_decided()
@@ -48,4 +56,8 @@ pub fn attribute_examples()
     ensures setting { IdsNeedTheSetting }
     ensures prefix { IdsHaveThePrefix }
     ensures distinct { IdsAreDistinct }
+    ensures links { LinksAreCanonical }
+    ensures pictures { PicturesHaveATextInTheirPlace }
+    ensures sources { SourcesAreFetched }
+    ensures styles { StylesAreCanonical }
 {}

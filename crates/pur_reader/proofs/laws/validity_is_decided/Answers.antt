@@ -2,4 +2,4 @@ use Rattle.pur_reader.proofs.DecidingLemmas.{valid-if, if-valid}
 use Rattle.pur_reader.proofs.laws.validity_is_decided.Goals as goal
 
 pub returns : goal.returns
-returns c rules nodes = (valid-if c.words_are_decided.ensures rules nodes, if-valid c.words_are_decided.ensures rules nodes)
+returns c rules rule nodes = (valid-if c.words_are_decided.ensures rules rule nodes, if-valid c.words_are_decided.ensures rules rule nodes)
