@@ -3,7 +3,7 @@ use Rattle.std.proofs.Common.{◌≡◌, ℕ, suc, Bool, true, false, not, ◌||
 use Rattle.std.specs.List.{list_all, list_any, filter_map, cons_option}
 use Rattle.std.specs.Option.{option_map_or}
 use Rattle.std.proofs.Math.Seq.{take-append_seam}
-use Rattle.std.proofs.lemmas.Bool.{and_parts, and_from, not-true}
+use Rattle.std.proofs.lemmas.Bool.{and_parts, and_from, cond-true, cond-false, not-true}
 use Rattle.std.proofs.lemmas.List.{length-map}
 use Rattle.pur_tokens.specs.Attributes.{is_same_text}
 use Rattle.pur_tokens.proofs.AttributeLaws.{both_false}
@@ -130,3 +130,29 @@ kept-begin prefix ids =
 
 pub kept-distinct : (prefix : List ℕ) (ids : List (List ℕ)) → are_different (somes (ids_kept prefix ids)) ≡ true
 kept-distinct prefix ids = first-distinct (map (with_prefix prefix) ids)
+
+-- ---- where all begin with the prefix and no two are the same, each is kept as it is
+
+begun-same : (prefix : List ℕ) (ids : List (List ℕ)) → list_all (has_prefix prefix) ids ≡ true → map (with_prefix prefix) ids ≡ ids
+begun-same prefix [] all = refl
+begun-same prefix (id ∷ ids) all =
+    let parts = and_parts (has_prefix prefix id) (list_all (has_prefix prefix) ids) all in
+    ap (λ t. t ∷ map (with_prefix prefix) ids) (cond-true (has_prefix prefix id) id (prefix ++ id) parts.0)
+    ∙ ap (λ l. id ∷ l) (begun-same prefix ids parts.1)
+
+unless-none : (id : List ℕ) (ids : List (List ℕ)) → list_any (is_same_text id) ids ≡ false → map (unless_same id) (map Some ids) ≡ map Some ids
+unless-none id [] none = refl
+unless-none id (other ∷ ids) none =
+    let parts = both_false (is_same_text id other) (list_any (is_same_text id) ids) none in
+    ap (λ o. o ∷ map (unless_same id) (map Some ids)) (cond-false (is_same_text id other) None (Some other) parts.0)
+    ∙ ap (λ l. Some other ∷ l) (unless-none id ids parts.1)
+
+first-same : (ids : List (List ℕ)) → are_different ids ≡ true → first_of_same ids ≡ map Some ids
+first-same [] apart = refl
+first-same (id ∷ ids) apart =
+    let parts = and_parts (not (list_any (is_same_text id) ids)) (are_different ids) apart in
+    ap (λ l. Some id ∷ map (unless_same id) l) (first-same ids parts.1) ∙ ap (λ l. Some id ∷ l) (unless-none id ids (not-true _ parts.0))
+
+pub kept-same : (prefix : List ℕ) (ids : List (List ℕ)) → list_all (has_prefix prefix) ids ≡ true → are_different ids ≡ true
+    → ids_kept prefix ids ≡ map Some ids
+kept-same prefix ids begin apart = ap first_of_same (begun-same prefix ids begin) ∙ first-same ids apart

@@ -1,6 +1,16 @@
 pub mod PairLemmas
 pub mod FirstLemmas
 pub mod ValueLemmas
+pub mod StepLemmas
 pub mod ElementLemmas
-pub mod DocumentLemmas
 pub mod StayingLemmas
+pub mod DocumentLemmas
+pub mod LeavingLemmas
+pub mod IdLemmas
+pub mod CompletingLemmas
+pub mod StrictLemmas
+pub mod SegmentLemmas
+pub mod SourceLemmas
+pub mod KeepingLemmas
+pub mod AlongLemmas
+pub mod WalkLemmas

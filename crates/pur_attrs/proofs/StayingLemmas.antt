@@ -15,6 +15,7 @@ use Rattle.pur_tree.specs.Places.{Place, fragment, inside, level_limit}
 use Rattle.pur_tree.specs.Properties.{Property, Holds, free, permitted}
 use Rattle.pur_tree.specs.Walks.{count_in_text}
 use Rattle.pur_tree.specs.Words.{word_of, IsWord, HaveWords}
+use Rattle.pur_urigate.specs.HostRules.{PlainHostRule}
 use Rattle.pur_reader.specs.Attributes.{ids_in, ids_of}
 use Rattle.pur_attrs.specs.Attributes.{with_changed_attributes, with_valid_attributes}
 use Rattle.pur_attrs.specs.Ids.{ids_kept, with_id, with_ids}
@@ -42,11 +43,11 @@ nodes-told told (elem_first e kids rest) =
     ap (λ l. elem_first (bare e.name) l (bare_nodes (with_ids (drop below behind) rest))) (nodes-told (take below behind) kids)
     ∙ ap (elem_first (bare e.name) (bare_nodes kids)) (nodes-told (drop below behind) rest)
 
-pub nodes_stay : (rules : Rules) (nodes : Nodes) → bare_nodes (with_valid_attributes rules nodes) ≡ bare_nodes nodes
-nodes_stay rules nodes =
-    let left = with_changed_attributes (kept_attributes rules) nodes in
+pub nodes_stay : (rules : Rules) (rule : PlainHostRule) (nodes : Nodes) → bare_nodes (with_valid_attributes rules rule nodes) ≡ bare_nodes nodes
+nodes_stay rules rule nodes =
+    let left = with_changed_attributes (kept_attributes rules rule) nodes in
     let told = ids_kept rules.id_prefix (ids_of left) in
-    nodes-changed completed_attributes (with_ids told left) ∙ nodes-told told left ∙ nodes-changed (kept_attributes rules) nodes
+    nodes-changed completed_attributes (with_ids told left) ∙ nodes-told told left ∙ nodes-changed (kept_attributes rules rule) nodes
 
 -- ---- what is asked of them
 
@@ -68,18 +69,18 @@ module _ (q : Property) (stays : (w : q.Where) (e : PlainElem) (attrs : List Att
         asked-told (drop below (drop own told)) w rest h.2,
       )
 
-  asked-stays : (rules : Rules) (w : q.Where) (nodes : Nodes) → Holds q w nodes → Holds q w (with_valid_attributes rules nodes)
-  asked-stays rules w nodes h =
-      let left = with_changed_attributes (kept_attributes rules) nodes in
+  asked-stays : (rules : Rules) (rule : PlainHostRule) (w : q.Where) (nodes : Nodes) → Holds q w nodes → Holds q w (with_valid_attributes rules rule nodes)
+  asked-stays rules rule w nodes h =
+      let left = with_changed_attributes (kept_attributes rules rule) nodes in
       let told = ids_kept rules.id_prefix (ids_of left) in
-      asked-changed completed_attributes w (with_ids told left) (asked-told told w left (asked-changed (kept_attributes rules) w nodes h))
+      asked-changed completed_attributes w (with_ids told left) (asked-told told w left (asked-changed (kept_attributes rules rule) w nodes h))
 
-pub free_stays : (rules : Rules) (outer : List Element) (nodes : Nodes) → Holds free outer nodes → Holds free outer (with_valid_attributes rules nodes)
-free_stays rules outer nodes h = asked-stays free (λ w e attrs is. is) rules outer nodes h
+pub free_stays : (rules : Rules) (rule : PlainHostRule) (outer : List Element) (nodes : Nodes) → Holds free outer nodes → Holds free outer (with_valid_attributes rules rule nodes)
+free_stays rules rule outer nodes h = asked-stays free (λ w e attrs is. is) rules rule outer nodes h
 
-pub permitted_stays : (permits : Element → Bool) (rules : Rules) (nodes : Nodes) → Holds (permitted permits) tt nodes
-    → Holds (permitted permits) tt (with_valid_attributes rules nodes)
-permitted_stays permits rules nodes h = asked-stays (permitted permits) (λ w e attrs is. is) rules tt nodes h
+pub permitted_stays : (permits : Element → Bool) (rules : Rules) (rule : PlainHostRule) (nodes : Nodes) → Holds (permitted permits) tt nodes
+    → Holds (permitted permits) tt (with_valid_attributes rules rule nodes)
+permitted_stays permits rules rule nodes h = asked-stays (permitted permits) (λ w e attrs is. is) rules rule tt nodes h
 
 -- ---- their levels, and where texts stand
 
@@ -117,22 +118,22 @@ joined-changed changed (elem_first e kids rest) =
     ap (λ b. b && is_joined (with_changed_attributes changed rest)) (joined-changed changed kids) ∙ ap (λ b. is_joined kids && b) (joined-changed changed rest)
 
 -- what is the same without attributes as with them is the same before and after
-unchanged : {X : Type 0} (told : Nodes → X) → ((nodes : Nodes) → told (bare_nodes nodes) ≡ told nodes) → (rules : Rules) (nodes : Nodes)
-    → told (with_valid_attributes rules nodes) ≡ told nodes
-unchanged told same rules nodes = sym (same (with_valid_attributes rules nodes)) ∙ ap told (nodes_stay rules nodes) ∙ same nodes
+pub unchanged : {X : Type 0} (told : Nodes → X) → ((nodes : Nodes) → told (bare_nodes nodes) ≡ told nodes) → (rules : Rules) (rule : PlainHostRule) (nodes : Nodes)
+    → told (with_valid_attributes rules rule nodes) ≡ told nodes
+unchanged told same rules rule nodes = sym (same (with_valid_attributes rules rule nodes)) ∙ ap told (nodes_stay rules rule nodes) ∙ same nodes
 
 abbrev none : Change
 none element attrs = []
 
-pub forest_stays : (rules : Rules) (nodes : Nodes) → KeepsForests rules nodes
-forest_stays rules nodes =
+pub forest_stays : (rules : Rules) (rule : PlainHostRule) (nodes : Nodes) → KeepsForests rules rule nodes
+forest_stays rules rule nodes =
     record {
       forest = λ h.
           record {
-            low = subst (λ n. n ≤ level_limit) (sym (unchanged level_of (level-changed none fragment) rules nodes)) h.low;
-            sound = unchanged is_sound (sound-changed none) rules nodes ∙ h.sound;
+            low = subst (λ n. n ≤ level_limit) (sym (unchanged level_of (level-changed none fragment) rules rule nodes)) h.low;
+            sound = unchanged is_sound (sound-changed none) rules rule nodes ∙ h.sound;
           };
-      joined = unchanged is_joined (joined-changed none) rules nodes;
+      joined = unchanged is_joined (joined-changed none) rules rule nodes;
     }
 
 -- ---- their words
@@ -176,15 +177,15 @@ words-told told doctype content (elem_first e kids rest) h =
       words-told (drop below behind) doctype content rest h.2,
     )
 
-pub words_stay : (doctype : Doctype) (content : Content) (rules : Rules) (nodes : Nodes) → KeepsWords doctype content rules nodes
-words_stay doctype content rules nodes =
-    let left = with_changed_attributes (kept_attributes rules) nodes in
+pub words_stay : (doctype : Doctype) (content : Content) (rules : Rules) (rule : PlainHostRule) (nodes : Nodes) → KeepsWords doctype content rules rule nodes
+words_stay doctype content rules rule nodes =
+    let left = with_changed_attributes (kept_attributes rules rule) nodes in
     let told = ids_kept rules.id_prefix (ids_of left) in
     record {
-      word = word-stays doctype content nodes (with_valid_attributes rules nodes) (nodes_stay rules nodes);
+      word = word-stays doctype content nodes (with_valid_attributes rules rule nodes) (nodes_stay rules rule nodes);
       words = λ h.
           words-changed completed_attributes doctype content (with_ids told left)
-          (words-told told doctype content left (words-changed (kept_attributes rules) doctype content nodes h));
+          (words-told told doctype content left (words-changed (kept_attributes rules rule) doctype content nodes h));
     }
 
 -- ---- their texts
@@ -196,5 +197,5 @@ count-changed changed c (elem_first e kids rest) =
     ap (λ n. n + count_in_text c (with_changed_attributes changed rest)) (count-changed changed c kids)
     ∙ ap (λ n. count_in_text c kids + n) (count-changed changed c rest)
 
-pub counts_stay : (rules : Rules) (c : ℕ) (nodes : Nodes) → count_in_text c (with_valid_attributes rules nodes) ≡ count_in_text c nodes
-counts_stay rules c nodes = unchanged (count_in_text c) (count-changed none c) rules nodes
+pub counts_stay : (rules : Rules) (rule : PlainHostRule) (c : ℕ) (nodes : Nodes) → count_in_text c (with_valid_attributes rules rule nodes) ≡ count_in_text c nodes
+counts_stay rules rule c nodes = unchanged (count_in_text c) (count-changed none c) rules rule nodes

@@ -1,22 +1,24 @@
 -- Which attributes are valid: what is kept is, an id with a prefix, both languages, and a direction.
-use Rattle.std.proofs.Common.{◌≡◌, ℕ, ◌^◌, Bool, true, false, ◌&&◌, ◌||◌, cond, nat_le, nat_lt, List, [], ◌∷◌, ◌++◌, Option, Some, None, refl, sym, ap, subst, ◌∙◌, arith}
+use Rattle.std.proofs.Common.{◌≡◌, ℕ, ◌^◌, Bool, true, false, not, ◌&&◌, ◌||◌, cond, nat_le, nat_lt, List, [], ◌∷◌, ◌++◌, map, Option, Some, None, refl, sym, ap, subst, ◌∙◌, arith}
 use mathlib.Core.Bool.{beq}
 use Rattle.std.specs.Prelude.{codes}
-use Rattle.std.specs.List.{list_all, list_any}
+use Rattle.std.specs.List.{find, list_all, list_any}
+use Rattle.std.specs.Str.{bytes_eq}
 use Rattle.std.specs.Option.{option_and_then, option_map, option_map_or}
 use Rattle.std.proofs.lemmas.Bool.{and_parts, and_from, cond-true, leb-true, ltb-true}
 use Rattle.std.proofs.lemmas.Bool.Decides.{nat_tests}
 use Rattle.std.proofs.lemmas.Option.{option_and_then_some, same_Some}
-use Rattle.pur_laws.proofs.Lists.{all-append, any-same}
+use Rattle.pur_laws.proofs.Lists.{all-append, all-weaker, any-same}
 use Rattle.pur_laws.proofs.Tests.{kept}
 use Rattle.pur_laws.proofs.Truth.{same_truth, or_true}
+use Rattle.pur_text.specs.Characters.{is_allowed}
 use Rattle.pur_text.specs.Trimming.{trimmed}
 use Rattle.pur_names.specs.Attributes.{attr_name, attr_named, same_attr, all_attrs}
 use Rattle.pur_names.specs.Elements.{all_elements, element_rank}
 use Rattle.pur_names.specs.declared.attributes.Attr.{Attr}
-use Rattle.pur_names.specs.declared.attributes.Attr.TheVariants.{Dir, Id, Lang, XmlLang}
+use Rattle.pur_names.specs.declared.attributes.Attr.TheVariants.{Alt, Cite, Dir, Href, Id, Lang, Longdesc, Src, Style, XmlLang}
 use Rattle.pur_names.specs.declared.elements.Element.{Element}
-use Rattle.pur_names.specs.declared.elements.Element.TheVariants.{Bdo}
+use Rattle.pur_names.specs.declared.elements.Element.TheVariants.{Bdo, Img}
 use Rattle.pur_names.proofs.AttrLaws.{attr_named-name, each_attr}
 use Rattle.pur_names.proofs.ElementLaws.{each_element, all_elements-rank}
 use Rattle.pur_modules.specs.AttributeLists.{attributes_of, required_of}
@@ -25,10 +27,10 @@ use Rattle.pur_modules.specs.declared.kinds.Doctype.TheVariants.{Strict, Transit
 use Rattle.pur_settings.specs.Prefixes.{begins_an_id, is_id_byte}
 use Rattle.pur_settings.specs.Rules.{Rules, permits_attribute, is_listed, is_meant}
 use Rattle.pur_values.specs.Kinds.{kind_of, is_declared}
-use Rattle.pur_values.specs.Laws.{ReadAsItself, IsSound}
+use Rattle.pur_values.specs.Laws.{AreAllowed, ReadAsItself, IsSound}
 use Rattle.pur_values.specs.Tokens.{is_id, is_id_character}
 use Rattle.pur_values.specs.Words.{is_letter, kept_where}
-use Rattle.pur_values.specs.Values.{value_of}
+use Rattle.pur_values.specs.Values.{spaced, value_of}
 use Rattle.pur_values.specs.declared.kinds.ValueKind.{ValueKind}
 use Rattle.pur_values.specs.declared.kinds.ValueKind.TheVariants as kind
 use Rattle.pur_values.proofs.SolidLemmas.{id-solid}
@@ -36,29 +38,39 @@ use Rattle.pur_values.proofs.TableLemmas.{agree_at}
 use Rattle.pur_values.proofs.TightLemmas.{solid-tight}
 use Rattle.pur_tokens.specs.Attributes.{Attribute, is_same_text}
 use Rattle.pur_tokens.proofs.TextLaws.{same_text, is_same_text-refl}
-use Rattle.pur_reader.specs.Attributes.{value_on, is_canonical, is_valid_attribute, has_prefix}
+use Rattle.pur_tree.specs.Spelling.{is_attr_name, is_spellable_attribute}
+use Rattle.pur_uri.specs.Escapes.{stays_in_path, stays_in_query}
+use Rattle.pur_uri.specs.Laws.{is_canonical_byte}
+use Rattle.pur_uri.specs.Uris.{PlainUri, uri_of, uri_text}
+use Rattle.pur_urigate.specs.HostRules.{PlainHostRule}
+use Rattle.pur_urigate.specs.declared.uses.UriUse.{UriUse}
+use Rattle.pur_urigate.specs.declared.uses.UriUse.TheVariants.{Embed, Link}
+use Rattle.pur_siterule.specs.Uses.{uri_under, ReadAgain, UrisAreAllowed}
+use Rattle.pur_cssprops.specs.Styles.{style_read}
+use Rattle.pur_reader.specs.Attributes.{uri_on, value_on, is_canonical, is_valid_attribute, has_prefix}
 use Rattle.pur_attrs.specs.Ids.{with_prefix}
 use Rattle.pur_attrs.specs.Steps.{kept_attribute}
 
 -- ---- values that are their own readings
 
-pub canonical-reading : (element : Element) (attr : Attr) (value : List ℕ) → is_canonical element attr value ≡ true
-    → value_on element attr value ≡ Some value
-canonical-reading element attr value is = go (value_on element attr value) is
-  where
-    go : (o : Option (List ℕ)) → option_map_or (is_same_text value) o false ≡ true → o ≡ Some value
-    go None h = absurd (cc)
-    go (Some read) h = ap Some (sym (same_text value read h))
+module _ (rules : Rules) (rule : PlainHostRule) where
+  pub canonical-reading : (element : Element) (attr : Attr) (value : List ℕ) → is_canonical rules rule element attr value ≡ true
+      → value_on rules rule element attr value ≡ Some value
+  canonical-reading element attr value is = go (value_on rules rule element attr value) is
+    where
+      go : (o : Option (List ℕ)) → option_map_or (is_same_text value) o false ≡ true → o ≡ Some value
+      go None h = absurd (cc)
+      go (Some read) h = ap Some (sym (same_text value read h))
 
-pub reading-canonical : (element : Element) (attr : Attr) (value : List ℕ) → value_on element attr value ≡ Some value
-    → is_canonical element attr value ≡ true
-reading-canonical element attr value is = ap (λ o. option_map_or (is_same_text value) o false) is ∙ is_same_text-refl value
+  pub reading-canonical : (element : Element) (attr : Attr) (value : List ℕ) → value_on rules rule element attr value ≡ Some value
+      → is_canonical rules rule element attr value ≡ true
+  reading-canonical element attr value is = ap (λ o. option_map_or (is_same_text value) o false) is ∙ is_same_text-refl value
 
--- the attribute of a name is valid where it is permitted, and the value its own reading
-pub valid-named : (rules : Rules) (element : Element) (attr : Attr) (value : List ℕ)
-    → is_valid_attribute rules element (attr_name attr, value) ≡ (permits_attribute rules element attr && is_canonical element attr value)
-valid-named rules element attr value =
-    ap (λ o. option_map_or (λ a. permits_attribute rules element a && is_canonical element a value) o false) (attr_named-name attr)
+  -- the attribute of a name is valid where it is permitted, and the value its own reading
+  pub valid-named : (element : Element) (attr : Attr) (value : List ℕ)
+      → is_valid_attribute rules rule element (attr_name attr, value) ≡ (permits_attribute rules element attr && is_canonical rules rule element attr value)
+  valid-named element attr value =
+      ap (λ o. option_map_or (λ a. permits_attribute rules element a && is_canonical rules rule element a value) o false) (attr_named-name attr)
 
 -- ---- what is kept
 
@@ -90,34 +102,128 @@ kinds-sound : (element : Element) → list_all (λ attr. is_sound_kind (kind_of 
 unfolding kind_of
 kinds-sound = each_element (λ element. list_all (λ attr. is_sound_kind (kind_of element attr)) all_attrs) refl
 
-module _ (again : ReadAsItself) where
-  reading-again : (element : Element) (attr : Attr) (raw value : List ℕ) → value_on element attr raw ≡ Some value
-      → value_on element attr value ≡ Some value
-  reading-again element attr raw value is =
+-- the laws of values, URIs and styles
+pub record Readings : Type 0 where
+  pub values : ReadAsItself
+  pub allowed : AreAllowed
+  pub uris : ReadAgain
+  pub uris_allowed : UrisAreAllowed
+  pub characters : (raw : List ℕ) (uri : PlainUri) → uri_of raw ≡ Some uri → list_all is_canonical_byte (uri_text uri) ≡ true
+  pub styles : (rules : Rules) (rule : PlainHostRule) (raw value : List ℕ) → list_all is_allowed raw ≡ true → style_read rules rule raw ≡ Some value
+      → style_read rules rule value ≡ Some value
+  pub styles_allowed : (rules : Rules) (rule : PlainHostRule) (raw value : List ℕ) → style_read rules rule raw ≡ Some value
+      → list_all is_allowed value ≡ true
+
+-- a value that is read as itself, and has allowed characters alone
+pub record IsReading (read : List ℕ → Option (List ℕ)) (value : List ℕ) : Type 0 where
+  pub again : read value ≡ Some value
+  pub allowed : list_all is_allowed value ≡ true
+
+-- what is kept has its name
+pub kept-name : (rules : Rules) (rule : PlainHostRule) (element : Element) (pair left : Attribute) → kept_attribute rules rule element pair ≡ Some left
+    → left.0 ≡ pair.0
+kept-name rules rule element pair left is =
+    option_and_then_some (λ attr. cond (permits_attribute rules element attr) (option_map (λ value. (pair.0, value)) (value_on rules rule element attr pair.1)) None)
+    (attr_named pair.0) left is
+    (λ attr named gives. permitted (permits_attribute rules element attr) (value_on rules rule element attr pair.1) gives)
+  where
+    permitted : (b : Bool) (o : Option (List ℕ)) → cond b (option_map {U = Attribute} (λ value. (pair.0, value)) o) None ≡ Some left → left.0 ≡ pair.0
+    permitted true None gives = absurd (cc)
+    permitted true (Some value) gives = ap (λ (l : Attribute). l.0) (sym (same_Some (pair.0, value) left gives))
+    permitted false o gives = absurd (cc)
+
+-- a name to which an attribute is looked up is the name of one
+found-any : (test : Attr → Bool) (attrs : List Attr) (attr : Attr) → find test attrs ≡ Some attr → list_any test attrs ≡ true
+found-any test [] attr is = absurd (cc)
+found-any test (first ∷ attrs) attr is = go (test first) is (found-any test attrs attr)
+  where
+    go : (b : Bool) → cond b (Some first) (find test attrs) ≡ Some attr → (find test attrs ≡ Some attr → list_any test attrs ≡ true)
+        → (b || list_any test attrs) ≡ true
+    go true found rest = refl
+    go false found rest = rest found
+
+named-name : (name : List ℕ) (attr : Attr) → attr_named name ≡ Some attr → is_attr_name name ≡ true
+unfolding attr_named
+named-name name attr is = found-any (λ a. bytes_eq (attr_name a) name) all_attrs attr is
+
+module _ (known : Readings) (rules : Rules) (rule : PlainHostRule) where
+  uri-reading : (purpose : UriUse) (raw value : List ℕ) → list_all is_allowed raw ≡ true → uri_on rules rule purpose raw ≡ Some value
+      → IsReading (uri_on rules rule purpose) value
+  uri-reading purpose raw value all is = go (uri_under rules rule purpose raw) refl is
+    where
+      go : (o : Option PlainUri) → uri_under rules rule purpose raw ≡ o → option_map uri_text o ≡ Some value → IsReading (uri_on rules rule purpose) value
+      go None e is = absurd (cc)
+      go (Some uri) e is =
+          let same : uri_text uri ≡ value = same_Some (uri_text uri) value is in
+          subst (IsReading (uri_on rules rule purpose)) same
+          (record {
+            again = ap (option_map uri_text) (known.uris rules rule purpose raw uri all e);
+            allowed = (known.uris_allowed rules rule purpose raw uri e).text;
+          })
+
+  style-reading : (raw value : List ℕ) → list_all is_allowed raw ≡ true → style_read rules rule raw ≡ Some value → IsReading (style_read rules rule) value
+  style-reading raw value all is = record { again = known.styles rules rule raw value all is; allowed = known.styles_allowed rules rule raw value is }
+
+  kind-reading : (element : Element) (attr : Attr) (raw value : List ℕ) → list_all is_allowed raw ≡ true
+      → option_and_then (λ k. value_of k raw) (kind_of element attr) ≡ Some value
+      → IsReading (λ text. option_and_then (λ k. value_of k text) (kind_of element attr)) value
+  kind-reading element attr raw value all is =
       option_and_then_some (λ k. value_of k raw) (kind_of element attr) value is
       (λ k has reads.
       let sound = sound-kind k (ap is_sound_kind (sym has) ∙ each_attr (λ a. is_sound_kind (kind_of element a)) (kinds-sound element) attr) in
-      ap (option_and_then (λ j. value_of j value)) has ∙ again k raw value sound reads)
+      record {
+        again = ap (option_and_then (λ j. value_of j value)) has ∙ known.values k raw value sound reads;
+        allowed = known.allowed k raw value sound all reads;
+      })
 
-  pub kept-valid : (rules : Rules) (element : Element) (pair left : Attribute) → kept_attribute rules element pair ≡ Some left
-      → is_valid_attribute rules element left ≡ true
-  kept-valid rules element pair left is =
-      option_and_then_some (λ attr. cond (permits_attribute rules element attr) (option_map (λ value. (pair.0, value)) (value_on element attr pair.1)) None)
+  reading-again : (element : Element) (attr : Attr) (raw value : List ℕ) → list_all is_allowed raw ≡ true → value_on rules rule element attr raw ≡ Some value
+      → IsReading (value_on rules rule element attr) value
+  reading-again element Cite raw value all is = uri-reading Link raw value all is
+  reading-again element Href raw value all is = uri-reading Link raw value all is
+  reading-again element Longdesc raw value all is = uri-reading Link raw value all is
+  reading-again element Src raw value all is = uri-reading Embed raw value all is
+  reading-again element Style raw value all is = style-reading raw value all is
+  reading-again element attr raw value all is = kind-reading element attr raw value all is
+
+  -- what is kept is valid, and may stand in a tag
+  pub kept-fine : (element : Element) (pair left : Attribute) → list_all is_allowed pair.1 ≡ true → kept_attribute rules rule element pair ≡ Some left
+      → (is_valid_attribute rules rule element left && is_spellable_attribute left) ≡ true
+  kept-fine element pair left all is =
+      option_and_then_some (λ attr. cond (permits_attribute rules element attr) (option_map (λ value. (pair.0, value)) (value_on rules rule element attr pair.1)) None)
       (attr_named pair.0) left is
       (λ attr named gives. permitted attr named (permits_attribute rules element attr) refl gives)
     where
       read : (attr : Attr) → attr_named pair.0 ≡ Some attr → permits_attribute rules element attr ≡ true → (o : Option (List ℕ))
-          → value_on element attr pair.1 ≡ o → option_map {U = Attribute} (λ value. (pair.0, value)) o ≡ Some left → is_valid_attribute rules element left ≡ true
+          → value_on rules rule element attr pair.1 ≡ o → option_map {U = Attribute} (λ value. (pair.0, value)) o ≡ Some left
+          → (is_valid_attribute rules rule element left && is_spellable_attribute left) ≡ true
       read attr named permits None reads gives = absurd (cc)
       read attr named permits (Some value) reads gives =
-          subst (λ l. is_valid_attribute rules element l ≡ true) (same_Some (pair.0, value) left gives)
-          (ap (λ o. option_map_or (λ a. permits_attribute rules element a && is_canonical element a value) o false) named
-          ∙ and_from _ _ permits (reading-canonical element attr value (reading-again element attr pair.1 value reads)))
+          let again = reading-again element attr pair.1 value all reads in
+          subst (λ l. (is_valid_attribute rules rule element l && is_spellable_attribute l) ≡ true) (same_Some (pair.0, value) left gives)
+          (and_from _ _
+          (ap (λ o. option_map_or (λ a. permits_attribute rules element a && is_canonical rules rule element a value) o false) named
+          ∙ and_from _ _ permits (reading-canonical rules rule element attr value again.again))
+          (and_from _ _ (named-name pair.0 attr named) again.allowed))
 
       permitted : (attr : Attr) → attr_named pair.0 ≡ Some attr → (b : Bool) → permits_attribute rules element attr ≡ b
-          → cond b (option_map {U = Attribute} (λ value. (pair.0, value)) (value_on element attr pair.1)) None ≡ Some left → is_valid_attribute rules element left ≡ true
-      permitted attr named true permits gives = read attr named permits (value_on element attr pair.1) refl gives
+          → cond b (option_map {U = Attribute} (λ value. (pair.0, value)) (value_on rules rule element attr pair.1)) None ≡ Some left
+          → (is_valid_attribute rules rule element left && is_spellable_attribute left) ≡ true
+      permitted attr named true permits gives = read attr named permits (value_on rules rule element attr pair.1) refl gives
       permitted attr named false permits gives = absurd (cc)
+
+-- what is valid is kept as it is
+pub valid-kept : (rules : Rules) (rule : PlainHostRule) (element : Element) (pair : Attribute) → is_valid_attribute rules rule element pair ≡ true
+    → kept_attribute rules rule element pair ≡ Some pair
+valid-kept rules rule element pair valid = go (attr_named pair.0) valid
+  where
+    go : (o : Option Attr)
+        → option_map_or (λ a. permits_attribute rules element a && is_canonical rules rule element a pair.1) o false ≡ true
+        → option_and_then (λ a. cond (permits_attribute rules element a) (option_map (λ value. (pair.0, value)) (value_on rules rule element a pair.1)) None) o
+        ≡ Some pair
+    go None is = absurd (cc)
+    go (Some attr) is =
+        let parts = and_parts (permits_attribute rules element attr) (is_canonical rules rule element attr pair.1) is in
+        cond-true _ _ _ parts.0 ∙ ap (option_map (λ value. (pair.0, value))) (canonical-reading rules rule element attr pair.1 parts.1)
 
 -- ---- ids
 
@@ -126,21 +232,21 @@ unfolding kind_of
 id-kind element =
     agree_at (λ e. kind_of e Id) (λ e. Some kind.Id) all_elements (element_rank element) element refl (all_elements-rank element)
 
-id-reading : (element : Element) (raw : List ℕ) → value_on element Id raw ≡ kept_where (is_id (trimmed raw)) (trimmed raw)
+id-reading : (rules : Rules) (rule : PlainHostRule) (element : Element) (raw : List ℕ) → value_on rules rule element Id raw ≡ kept_where (is_id (trimmed raw)) (trimmed raw)
 unfolding value_of
-id-reading element raw = ap (option_and_then (λ k. value_of k raw)) (id-kind element)
+id-reading rules rule element raw = ap (option_and_then (λ k. value_of k raw)) (id-kind element)
 
 id-tight : (id : List ℕ) → is_id id ≡ true → trimmed id ≡ id
 id-tight id is = solid-tight id (id-solid id is)
 
-pub id-canonical : (element : Element) (id : List ℕ) → is_id id ≡ true → is_canonical element Id id ≡ true
-id-canonical element id is =
-    reading-canonical element Id id
-    (id-reading element id ∙ ap (λ t. kept_where (is_id t) t) (id-tight id is) ∙ cond-true (is_id id) (Some id) None is)
+pub id-canonical : (rules : Rules) (rule : PlainHostRule) (element : Element) (id : List ℕ) → is_id id ≡ true → is_canonical rules rule element Id id ≡ true
+id-canonical rules rule element id is =
+    reading-canonical rules rule element Id id
+    (id-reading rules rule element id ∙ ap (λ t. kept_where (is_id t) t) (id-tight id is) ∙ cond-true (is_id id) (Some id) None is)
 
-pub canonical-id : (element : Element) (id : List ℕ) → is_canonical element Id id ≡ true → is_id id ≡ true
-canonical-id element id is =
-    let parts = kept (is_id (trimmed id)) (trimmed id) id (sym (id-reading element id) ∙ canonical-reading element Id id is) in
+pub canonical-id : (rules : Rules) (rule : PlainHostRule) (element : Element) (id : List ℕ) → is_canonical rules rule element Id id ≡ true → is_id id ≡ true
+canonical-id rules rule element id is =
+    let parts = kept (is_id (trimmed id)) (trimmed id) id (sym (id-reading rules rule element id) ∙ canonical-reading rules rule element Id id is) in
     subst (λ t. is_id t ≡ true) parts.1 parts.0
 
 letter-character : (c : ℕ) → is_letter c ≡ true → is_id_character c ≡ true
@@ -199,13 +305,13 @@ languages-permitted rules element =
     three _ _ _ _ _ _ (languages-declared rules.doctype element) (languages-listed rules.attributes) (languages-required element)
 
 -- a value is valid for both or for neither
-pub languages-valid : (rules : Rules) (element : Element) (value : List ℕ)
-    → is_valid_attribute rules element (codes "lang", value) ≡ is_valid_attribute rules element (codes "xml:lang", value)
-languages-valid rules element value =
-    valid-named rules element Lang value
-    ∙ ap (λ b. b && is_canonical element Lang value) (languages-permitted rules element)
+pub languages-valid : (rules : Rules) (rule : PlainHostRule) (element : Element) (value : List ℕ)
+    → is_valid_attribute rules rule element (codes "lang", value) ≡ is_valid_attribute rules rule element (codes "xml:lang", value)
+languages-valid rules rule element value =
+    valid-named rules rule element Lang value
+    ∙ ap (λ b. b && is_canonical rules rule element Lang value) (languages-permitted rules element)
     ∙ ap (λ k. permits_attribute rules element XmlLang && option_map_or (is_same_text value) (option_and_then (λ j. value_of j value) k) false) (language-kinds element)
-    ∙ sym (valid-named rules element XmlLang value)
+    ∙ sym (valid-named rules rule element XmlLang value)
 
 -- ---- the direction of `bdo`
 
@@ -214,11 +320,60 @@ unfolding attributes_of
 direction-declared Strict = refl
 direction-declared Transitional = refl
 
-direction-canonical : is_canonical Bdo Dir (codes "ltr") ≡ true
+direction-canonical : (rules : Rules) (rule : PlainHostRule) → is_canonical rules rule Bdo Dir (codes "ltr") ≡ true
 unfolding attributes_of kind_of is_declared trimmed value_of
-direction-canonical = refl
+direction-canonical rules rule = refl
 
-pub direction-valid : (rules : Rules) → is_valid_attribute rules Bdo (codes "dir", codes "ltr") ≡ true
-direction-valid rules =
-    valid-named rules Bdo Dir (codes "ltr")
-    ∙ and_from _ _ (and_from _ _ (and_from _ _ (direction-declared rules.doctype) (or_true (is_listed rules.attributes (is_meant Dir)))) refl) direction-canonical
+pub direction-valid : (rules : Rules) (rule : PlainHostRule) → is_valid_attribute rules rule Bdo (codes "dir", codes "ltr") ≡ true
+direction-valid rules rule =
+    valid-named rules rule Bdo Dir (codes "ltr")
+    ∙ and_from _ _ (and_from _ _ (and_from _ _ (direction-declared rules.doctype) (or_true (is_listed rules.attributes (is_meant Dir)))) refl) (direction-canonical rules rule)
+
+-- ---- the text in the place of a picture
+
+byte-allowed : (b : ℕ) → is_canonical_byte b ≡ true → is_allowed b ≡ true
+unfolding is_canonical_byte stays_in_query stays_in_path
+byte-allowed b is = grind (arith, nat_tests)
+
+byte-spaced : (b : ℕ) → is_canonical_byte b ≡ true → spaced b ≡ b
+unfolding is_canonical_byte stays_in_query stays_in_path
+byte-spaced b is = grind (arith, nat_tests)
+
+pub bytes-allowed : (text : List ℕ) → list_all is_canonical_byte text ≡ true → list_all is_allowed text ≡ true
+bytes-allowed = all-weaker is_canonical_byte is_allowed byte-allowed
+
+bytes-spaced : (text : List ℕ) → list_all is_canonical_byte text ≡ true → map spaced text ≡ text
+bytes-spaced [] all = refl
+bytes-spaced (b ∷ text) all =
+    let parts = and_parts (is_canonical_byte b) (list_all is_canonical_byte text) all in
+    ap (λ c. c ∷ map spaced text) (byte-spaced b parts.0) ∙ ap (λ l. b ∷ l) (bytes-spaced text parts.1)
+
+pictures-have : (doctype : Doctype) (attr : Attr) → list_any (same_attr attr) (required_of Img) ≡ true → list_any (same_attr attr) (attributes_of doctype Img) ≡ true
+unfolding attributes_of
+pictures-have Strict Src is = refl
+pictures-have Strict Alt is = refl
+pictures-have Strict attr is = absurd (cc)
+pictures-have Transitional Src is = refl
+pictures-have Transitional Alt is = refl
+pictures-have Transitional attr is = absurd (cc)
+
+-- what a picture must have is permitted
+pub picture-permitted : (rules : Rules) (attr : Attr) → list_any (same_attr attr) (required_of Img) ≡ true → not (same_attr attr Id) ≡ true
+    → permits_attribute rules Img attr ≡ true
+picture-permitted rules attr is other =
+    and_from _ _
+    (and_from _ _ (pictures-have rules.doctype attr is)
+    (ap (λ b. is_listed rules.attributes (is_meant attr) || b) is ∙ or_true (is_listed rules.attributes (is_meant attr))))
+    (ap (λ b. b || rules.ids) other)
+
+alt-kind : kind_of Img Alt ≡ Some kind.Text
+unfolding kind_of
+alt-kind = refl
+
+pub alt-valid : (rules : Rules) (rule : PlainHostRule) (text : List ℕ) → list_all is_canonical_byte text ≡ true
+    → is_valid_attribute rules rule Img (codes "alt", text) ≡ true
+unfolding value_of
+alt-valid rules rule text all =
+    valid-named rules rule Img Alt text
+    ∙ and_from _ _ (picture-permitted rules Alt refl refl)
+    (reading-canonical rules rule Img Alt text (ap (option_and_then (λ k. value_of k text)) alt-kind ∙ ap Some (bytes-spaced text all)))

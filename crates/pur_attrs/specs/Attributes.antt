@@ -5,6 +5,7 @@ use Rattle.pur_settings.specs.Rules.{Rules}
 use Rattle.pur_tokens.specs.Attributes.{Attribute}
 use Rattle.pur_tree.specs.Nodes.{Nodes, no_nodes, elem_first, plain_elem}
 use Rattle.pur_tree.specs.Walks.{walk}
+use Rattle.pur_urigate.specs.HostRules.{PlainHostRule}
 use Rattle.pur_attrs.specs.Ids.{with_first_ids}
 use Rattle.pur_attrs.specs.Steps.{kept_attributes, completed_attributes}
 
@@ -14,6 +15,7 @@ with_changed_attributes changed nodes = walk (λ e kids. elem_first (plain_elem 
 
 -- nodes after the attributes were gone through: of each element what is kept is read, then the ids of the document are
 -- looked at as one list, and then what is missing is put in
-abbrev pub with_valid_attributes : Rules → Nodes → Nodes
-with_valid_attributes rules nodes =
-    with_changed_attributes completed_attributes (with_first_ids rules.id_prefix (with_changed_attributes (kept_attributes rules) nodes))
+abbrev pub with_valid_attributes : Rules → PlainHostRule → Nodes → Nodes
+with_valid_attributes rules rule nodes =
+    with_changed_attributes completed_attributes
+    (with_first_ids rules.id_prefix (with_changed_attributes (kept_attributes rules rule) nodes))

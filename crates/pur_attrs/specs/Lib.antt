@@ -3,3 +3,4 @@ pub mod Ids
 pub mod Attributes
 pub mod Rows
 pub mod Laws
+pub mod Private

@@ -1,12 +1,13 @@
 -- Worked examples of attributes.
-use Rattle.std.specs.Prelude.{ℕ, ◌≡◌, true, List, [], ◌∷◌, Some, codes}
+use Rattle.std.specs.Prelude.{ℕ, ◌≡◌, true, List, [], ◌∷◌, Some, None, codes}
 use Rattle.pur_names.specs.declared.attributes.Attr.TheVariants.{Lang}
 use Rattle.pur_names.specs.declared.elements.Element.{Element}
-use Rattle.pur_names.specs.declared.elements.Element.TheVariants.{A, Bdo, Div, P, Table, Td, Tr}
+use Rattle.pur_names.specs.declared.elements.Element.TheVariants.{A, Bdo, Div, Img, P, Table, Td, Tr}
 use Rattle.pur_modules.specs.declared.kinds.Doctype.TheVariants.{Strict, Transitional}
 use Rattle.pur_settings.specs.Rules.{Rules, default_rules}
 use Rattle.pur_tokens.specs.Attributes.{Attribute}
 use Rattle.pur_tree.specs.Nodes.{Nodes, no_nodes, text_first, elem_first, nodes_append, plain_elem}
+use Rattle.pur_urigate.specs.HostRules.{PlainHostRule}
 use Rattle.pur_attrs.specs.Attributes.{with_valid_attributes}
 use Rattle.pur_attrs.specs.Steps.{with_style_in}
 
@@ -43,97 +44,105 @@ with_ids_on = prefixed []
 abbrev strict : Rules
 strict = record default_rules { doctype = Strict }
 
+-- no host is denied
+abbrev any_host : PlainHostRule
+any_host = record { denied = []; host = None; external = true }
+
+-- nodes after their attributes were gone through, where no host is denied
+abbrev valid_under : Rules → Nodes → Nodes
+valid_under rules nodes = with_valid_attributes rules any_host nodes
+
 -- `<p id="a">x</p><p id="a">x</p>` gives `<p id="a">x</p><p>x</p>`
 abbrev pub LeavesOutTheSecondId : Type 0
 LeavesOutTheSecondId =
     let first = el P ((codes "id", codes "a") ∷ []) in
-    with_valid_attributes with_ids_on (all_of (first ∷ first ∷ [])) ≡ all_of (first ∷ el P [] ∷ [])
+    valid_under with_ids_on (all_of (first ∷ first ∷ [])) ≡ all_of (first ∷ el P [] ∷ [])
 
 -- with the prefix `u-`, `<p id="a">x</p>` gives `<p id="u-a">x</p>`
 abbrev pub PutsThePrefix : Type 0
-PutsThePrefix = with_valid_attributes (prefixed (codes "u-")) (el P ((codes "id", codes "a") ∷ [])) ≡ el P ((codes "id", codes "u-a") ∷ [])
+PutsThePrefix = valid_under (prefixed (codes "u-")) (el P ((codes "id", codes "a") ∷ [])) ≡ el P ((codes "id", codes "u-a") ∷ [])
 
 -- and that stays as it is
 abbrev pub PutsThePrefixOnce : Type 0
 PutsThePrefixOnce =
     let nodes = el P ((codes "id", codes "u-a") ∷ []) in
-    with_valid_attributes (prefixed (codes "u-")) nodes ≡ nodes
+    valid_under (prefixed (codes "u-")) nodes ≡ nodes
 
 -- with it, `<p id="a">x</p><p id="u-a">x</p>` gives `<p id="u-a">x</p><p>x</p>`
 abbrev pub PutsThePrefixFirst : Type 0
 PutsThePrefixFirst =
     let second = el P ((codes "id", codes "u-a") ∷ []) in
-    with_valid_attributes (prefixed (codes "u-")) (all_of (el P ((codes "id", codes "a") ∷ []) ∷ second ∷ [])) ≡ all_of (second ∷ el P [] ∷ [])
+    valid_under (prefixed (codes "u-")) (all_of (el P ((codes "id", codes "a") ∷ []) ∷ second ∷ [])) ≡ all_of (second ∷ el P [] ∷ [])
 
 -- `<div id="a"><p id="a">x</p></div><p id="b">x</p>` gives `<div id="a"><p>x</p></div><p id="b">x</p>`
 abbrev pub GoesInDocumentOrder : Type 0
 GoesInDocumentOrder =
     let a = (codes "id", codes "a") ∷ [] in
     let last = el P ((codes "id", codes "b") ∷ []) in
-    with_valid_attributes with_ids_on (all_of (round Div a (el P a) ∷ last ∷ [])) ≡ all_of (round Div a (el P []) ∷ last ∷ [])
+    valid_under with_ids_on (all_of (round Div a (el P a) ∷ last ∷ [])) ≡ all_of (round Div a (el P []) ∷ last ∷ [])
 
 -- where ids are off, `<p id="a">x</p>` gives `<p>x</p>`
 abbrev pub KeepsNoIdUnlessIdsAreOn : Type 0
-KeepsNoIdUnlessIdsAreOn = with_valid_attributes default_rules (el P ((codes "id", codes "a") ∷ [])) ≡ el P []
+KeepsNoIdUnlessIdsAreOn = valid_under default_rules (el P ((codes "id", codes "a") ∷ [])) ≡ el P []
 
 -- with the prefix `u-`, `<a name="t">x</a>` gives `<a id="u-t">x</a>`
 abbrev pub MakesANameAnId : Type 0
-MakesANameAnId = with_valid_attributes (prefixed (codes "u-")) (el A ((codes "name", codes "t") ∷ [])) ≡ el A ((codes "id", codes "u-t") ∷ [])
+MakesANameAnId = valid_under (prefixed (codes "u-")) (el A ((codes "name", codes "t") ∷ [])) ≡ el A ((codes "id", codes "u-t") ∷ [])
 
 -- `<a name="t" id="s">x</a>` gives `<a id="s">x</a>`
 abbrev pub DropsANameBesideAnId : Type 0
 DropsANameBesideAnId =
-    with_valid_attributes with_ids_on (el A ((codes "name", codes "t") ∷ (codes "id", codes "s") ∷ [])) ≡ el A ((codes "id", codes "s") ∷ [])
+    valid_under with_ids_on (el A ((codes "name", codes "t") ∷ (codes "id", codes "s") ∷ [])) ≡ el A ((codes "id", codes "s") ∷ [])
 
 -- `<a name="t" id="1">x</a>` gives `<a>x</a>`
 abbrev pub DropsANameBesideAnUnreadId : Type 0
-DropsANameBesideAnUnreadId = with_valid_attributes with_ids_on (el A ((codes "name", codes "t") ∷ (codes "id", codes "1") ∷ [])) ≡ el A []
+DropsANameBesideAnUnreadId = valid_under with_ids_on (el A ((codes "name", codes "t") ∷ (codes "id", codes "1") ∷ [])) ≡ el A []
 
 -- `<p name="t">x</p>` gives `<p>x</p>`
 abbrev pub DropsOtherNames : Type 0
-DropsOtherNames = with_valid_attributes with_ids_on (el P ((codes "name", codes "t") ∷ [])) ≡ el P []
+DropsOtherNames = valid_under with_ids_on (el P ((codes "name", codes "t") ∷ [])) ≡ el P []
 
 -- `<p lang="EN">x</p>` gives `<p lang="en" xml:lang="en">x</p>`
 abbrev pub TellsBothLanguages : Type 0
 TellsBothLanguages =
-    with_valid_attributes default_rules (el P ((codes "lang", codes "EN") ∷ []))
+    valid_under default_rules (el P ((codes "lang", codes "EN") ∷ []))
     ≡ el P ((codes "lang", codes "en") ∷ (codes "xml:lang", codes "en") ∷ [])
 
 -- `<p lang="de" title="t" xml:lang="fr">x</p>` gives `<p lang="fr" title="t" xml:lang="fr">x</p>`
 abbrev pub TellsTheLanguageOfXml : Type 0
 TellsTheLanguageOfXml =
-    with_valid_attributes default_rules (el P ((codes "lang", codes "de") ∷ title ∷ french ∷ []))
+    valid_under default_rules (el P ((codes "lang", codes "de") ∷ title ∷ french ∷ []))
     ≡ el P ((codes "lang", codes "fr") ∷ title ∷ french ∷ [])
 
 -- `<p xml:lang="fr" title="t">x</p>` gives `<p xml:lang="fr" title="t" lang="fr">x</p>`
 abbrev pub TellsTheLanguageAtTheEnd : Type 0
 TellsTheLanguageAtTheEnd =
-    with_valid_attributes default_rules (el P (french ∷ title ∷ [])) ≡ el P (french ∷ title ∷ (codes "lang", codes "fr") ∷ [])
+    valid_under default_rules (el P (french ∷ title ∷ [])) ≡ el P (french ∷ title ∷ (codes "lang", codes "fr") ∷ [])
 
 -- `<bdo>x</bdo>` gives `<bdo dir="ltr">x</bdo>`
 abbrev pub PutsADirection : Type 0
-PutsADirection = with_valid_attributes default_rules (el Bdo []) ≡ el Bdo ((codes "dir", codes "ltr") ∷ [])
+PutsADirection = valid_under default_rules (el Bdo []) ≡ el Bdo ((codes "dir", codes "ltr") ∷ [])
 
 -- `<bdo dir="RTL">x</bdo>` gives `<bdo dir="rtl">x</bdo>`
 abbrev pub KeepsADirection : Type 0
-KeepsADirection = with_valid_attributes default_rules (el Bdo ((codes "dir", codes "RTL") ∷ [])) ≡ el Bdo ((codes "dir", codes "rtl") ∷ [])
+KeepsADirection = valid_under default_rules (el Bdo ((codes "dir", codes "RTL") ∷ [])) ≡ el Bdo ((codes "dir", codes "rtl") ∷ [])
 
 -- where no attributes are listed, `<bdo dir="rtl" title="t">x</bdo>` gives `<bdo dir="rtl">x</bdo>`
 abbrev pub KeepsWhatIsRequired : Type 0
 KeepsWhatIsRequired =
-    with_valid_attributes (record default_rules { attributes = Some [] }) (el Bdo (to_the_left ∷ title ∷ [])) ≡ el Bdo (to_the_left ∷ [])
+    valid_under (record default_rules { attributes = Some [] }) (el Bdo (to_the_left ∷ title ∷ [])) ≡ el Bdo (to_the_left ∷ [])
 
 -- where `lang` alone is listed, `<p title="t" xml:lang="fr">x</p>` gives `<p xml:lang="fr" lang="fr">x</p>`
 abbrev pub KeepsWhatIsListed : Type 0
 KeepsWhatIsListed =
-    with_valid_attributes (record default_rules { attributes = Some (Lang ∷ []) }) (el P (title ∷ french ∷ []))
+    valid_under (record default_rules { attributes = Some (Lang ∷ []) }) (el P (title ∷ french ∷ []))
     ≡ el P (french ∷ (codes "lang", codes "fr") ∷ [])
 
 -- `<table border="007px" width="150%"><tr><td colspan="0" align="RIGHT">x</td></tr></table>` gives
 -- `<table border="7" width="100%"><tr><td align="right">x</td></tr></table>`
 abbrev pub ReadsValues : Type 0
 ReadsValues =
-    with_valid_attributes default_rules
+    valid_under default_rules
     (round Table ((codes "border", codes "007px") ∷ (codes "width", codes "150%") ∷ [])
     (round Tr [] (el Td ((codes "colspan", codes "0") ∷ (codes "align", codes "RIGHT") ∷ []))))
     ≡ round Table ((codes "border", codes "7") ∷ (codes "width", codes "100%") ∷ []) (round Tr [] (el Td ((codes "align", codes "right") ∷ [])))
@@ -142,14 +151,20 @@ ReadsValues =
 abbrev pub ReadsClasses : Type 0
 ReadsClasses =
     let nodes = el P ((codes "class", codes "a") ∷ []) in
-    with_valid_attributes default_rules nodes ≡ nodes
+    valid_under default_rules nodes ≡ nodes
 
--- in Strict `<p align="center" title="t">x</p>` gives `<p title="t">x</p>`, until styles are read
-abbrev pub DropsWhatStrictLacks : Type 0
-DropsWhatStrictLacks =
-    with_valid_attributes strict (el P ((codes "align", codes "center") ∷ title ∷ [])) ≡ el P (title ∷ [])
+-- in Strict `<p align="center" title="t">x</p>` gives `<p title="t" style="text-align:center;">x</p>`
+abbrev pub StylesWhatStrictLacks : Type 0
+StylesWhatStrictLacks =
+    valid_under strict (el P ((codes "align", codes "center") ∷ title ∷ []))
+    ≡ el P (title ∷ (codes "style", codes "text-align:center;") ∷ [])
 
--- before that, `<p align="center">` has got `style="text-align:center;"` at its end
+-- and `<td bgcolor="red">x</td>` gives `<td style="background-color:#ff0000;">x</td>`
+abbrev pub StylesWhatIsBehind : Type 0
+StylesWhatIsBehind =
+    valid_under strict (el Td ((codes "bgcolor", codes "red") ∷ [])) ≡ el Td ((codes "style", codes "background-color:#ff0000;") ∷ [])
+
+-- before values are read, `<p align="center">` has got `style="text-align:center;"` at its end
 abbrev pub StylesText : Type 0
 StylesText =
     with_style_in Strict P ((codes "align", codes "center") ∷ title ∷ [])
@@ -168,8 +183,47 @@ StylesNothingInTransitional =
     let attrs : List Attribute = (codes "align", codes "center") ∷ [] in
     with_style_in Transitional P attrs ≡ attrs
 
--- `<a href="x" style="color:red" onclick="y">x</a>` gives `<a>x</a>`, until links and styles are read
-abbrev pub DropsStylesAndLinks : Type 0
-DropsStylesAndLinks =
-    with_valid_attributes default_rules
-    (el A ((codes "href", codes "x") ∷ (codes "style", codes "color:red") ∷ (codes "onclick", codes "y") ∷ [])) ≡ el A []
+-- ---- links, pictures and styles
+
+-- `<a href="x" style="color:red" onclick="y">x</a>` gives `<a href="x" style="color:#ff0000;">x</a>`
+abbrev pub ReadsStylesAndLinks : Type 0
+ReadsStylesAndLinks =
+    let href : Attribute = (codes "href", codes "x") in
+    valid_under default_rules (el A (href ∷ (codes "style", codes "color:red") ∷ (codes "onclick", codes "y") ∷ []))
+    ≡ el A (href ∷ (codes "style", codes "color:#ff0000;") ∷ [])
+
+-- `<a href="javascript:alert(1)">x</a>` gives `<a>x</a>`
+abbrev pub DropsScripts : Type 0
+DropsScripts = valid_under default_rules (el A ((codes "href", codes "javascript:alert(1)") ∷ [])) ≡ el A []
+
+-- `<a href="HTTP://Example.COM:80/%7euser?q=a b">x</a>` gives `<a href="http://example.com/~user?q=a%20b">x</a>`
+abbrev pub ReadsLinks : Type 0
+ReadsLinks =
+    valid_under default_rules (el A ((codes "href", codes "HTTP://Example.COM:80/%7euser?q=a b") ∷ []))
+    ≡ el A ((codes "href", codes "http://example.com/~user?q=a%20b") ∷ [])
+
+-- `<img src="x.png" />` gives `<img src="x.png" alt="x.png" />`
+abbrev pub NamesPictures : Type 0
+NamesPictures =
+    let src : Attribute = (codes "src", codes "x.png") in
+    valid_under default_rules (round Img (src ∷ []) no_nodes) ≡ round Img (src ∷ (codes "alt", codes "x.png") ∷ []) no_nodes
+
+-- `<img src="a/b%2fc.png" />` gives `<img src="a/b%2Fc.png" alt="b%2Fc.png" />`
+abbrev pub NamesPicturesByTheLastSegment : Type 0
+NamesPicturesByTheLastSegment =
+    valid_under default_rules (round Img ((codes "src", codes "a/b%2fc.png") ∷ []) no_nodes)
+    ≡ round Img ((codes "src", codes "a/b%2Fc.png") ∷ (codes "alt", codes "b%2Fc.png") ∷ []) no_nodes
+
+-- where `bad.com` is denied
+abbrev none_bad : PlainHostRule
+none_bad = record { denied = codes "bad.com" ∷ []; host = None; external = true }
+
+-- there `<a href="http://x.bad.com/">x</a>` gives `<a>x</a>`
+abbrev pub DropsDeniedHosts : Type 0
+DropsDeniedHosts = with_valid_attributes default_rules none_bad (el A ((codes "href", codes "http://x.bad.com/") ∷ [])) ≡ el A []
+
+-- and `<a href="http://notbad.com/">x</a>` stays as it is
+abbrev pub KeepsOtherHosts : Type 0
+KeepsOtherHosts =
+    let nodes = el A ((codes "href", codes "http://notbad.com/") ∷ []) in
+    with_valid_attributes default_rules none_bad nodes ≡ nodes

@@ -1,6 +1,6 @@
 -- What becomes of the attributes of one element (HTML Purifier's fourth strategy).
-use Rattle.std.specs.Prelude.{ℕ, List, [], ◌∷◌, ◌++◌, map, Option, None, Some, if◌then◌else◌, codes}
-use Rattle.std.specs.List.{filter_map}
+use Rattle.std.specs.Prelude.{ℕ, ◌==◌, not, List, [], ◌∷◌, ◌++◌, map, reverse, Option, None, Some, if◌then◌else◌, codes, encode_utf8_all}
+use Rattle.std.specs.List.{filter_map, take_while}
 use Rattle.std.specs.Option.{option_and_then, option_map, option_map_or, option_or}
 use Rattle.pur_names.specs.Attributes.{attr_named}
 use Rattle.pur_names.specs.declared.elements.Element.{Element}
@@ -10,6 +10,9 @@ use Rattle.pur_modules.specs.declared.kinds.Doctype.{Doctype}
 use Rattle.pur_modules.specs.declared.kinds.Doctype.TheVariants.{Strict, Transitional}
 use Rattle.pur_settings.specs.Rules.{Rules, permits_attribute}
 use Rattle.pur_tokens.specs.Attributes.{Attribute, is_same_text, has_name, value_of, with_value, with_new, without}
+use Rattle.pur_tokens.specs.Styles.{with_style}
+use Rattle.pur_uri.specs.Uris.{uri_of}
+use Rattle.pur_urigate.specs.HostRules.{PlainHostRule}
 use Rattle.pur_reader.specs.Attributes.{value_on}
 
 -- ---- the name of an anchor or a picture (XHTML 1.0, section 4.10)
@@ -30,17 +33,22 @@ with_name_as_id element attrs =
 abbrev pub styled_by : List Element → Element → (List ℕ → List ℕ) → Option (List ℕ) → List ℕ
 styled_by elements element declared found = if is_among elements element then option_map_or declared found [] else []
 
+-- the elements whose text `align` sets, those behind which `bgcolor` puts a colour, and those whose lines `nowrap` keeps whole
+abbrev pub aligned : List Element
+aligned = P ∷ Div ∷ H1 ∷ H2 ∷ H3 ∷ H4 ∷ H5 ∷ H6 ∷ []
+
+abbrev pub colored : List Element
+colored = Table ∷ Tr ∷ Td ∷ Th ∷ []
+
+abbrev pub cells : List Element
+cells = Td ∷ Th ∷ []
+
 -- where text stands, what is behind it, and that its lines aren't broken, in this order
 abbrev pub style_for : Element → List Attribute → List ℕ
 style_for element attrs =
-    styled_by (P ∷ Div ∷ H1 ∷ H2 ∷ H3 ∷ H4 ∷ H5 ∷ H6 ∷ []) element (λ value. codes "text-align:" ++ value ++ codes ";") (value_of attrs (codes "align"))
-    ++ styled_by (Table ∷ Tr ∷ Td ∷ Th ∷ []) element (λ value. codes "background-color:" ++ value ++ codes ";") (value_of attrs (codes "bgcolor"))
-    ++ styled_by (Td ∷ Th ∷ []) element (λ value. codes "white-space:nowrap;") (value_of attrs (codes "nowrap"))
-
--- a style in front of that which is there, or as a new one at the end; the empty style changes nothing
-abbrev pub with_style : List ℕ → List Attribute → List Attribute
-with_style [] attrs = attrs
-with_style style attrs = with_value attrs (codes "style") (option_map_or (λ value. style ++ value) (value_of attrs (codes "style")) style)
+    styled_by aligned element (λ value. codes "text-align:" ++ value ++ codes ";") (value_of attrs (codes "align"))
+    ++ styled_by colored element (λ value. codes "background-color:" ++ value ++ codes ";") (value_of attrs (codes "bgcolor"))
+    ++ styled_by cells element (λ value. codes "white-space:nowrap;") (value_of attrs (codes "nowrap"))
 
 -- the attributes with the style that Strict has for some of them
 abbrev pub with_style_in : Doctype → Element → List Attribute → List Attribute
@@ -50,16 +58,16 @@ with_style_in Transitional element attrs = attrs
 -- ---- what is kept
 
 -- an attribute with what its value is read as; none, where it isn't declared on the element, isn't permitted, or isn't read
-abbrev pub kept_attribute : Rules → Element → Attribute → Option Attribute
-kept_attribute rules element pair =
+abbrev pub kept_attribute : Rules → PlainHostRule → Element → Attribute → Option Attribute
+kept_attribute rules rule element pair =
     option_and_then
-    (λ attr. if permits_attribute rules element attr then option_map (λ value. (pair.0, value)) (value_on element attr pair.1) else None)
+    (λ attr. if permits_attribute rules element attr then option_map (λ value. (pair.0, value)) (value_on rules rule element attr pair.1) else None)
     (attr_named pair.0)
 
 -- the attributes that are kept
-abbrev pub kept_attributes : Rules → Element → List Attribute → List Attribute
-kept_attributes rules element attrs =
-    filter_map (kept_attribute rules element) (with_style_in rules.doctype element (with_name_as_id element attrs))
+abbrev pub kept_attributes : Rules → PlainHostRule → Element → List Attribute → List Attribute
+kept_attributes rules rule element attrs =
+    filter_map (kept_attribute rules rule element) (with_style_in rules.doctype element (with_name_as_id element attrs))
 
 -- ---- what is put in
 
@@ -72,9 +80,20 @@ abbrev pub with_language : Option (List ℕ) → List Attribute → List Attribu
 with_language None attrs = attrs
 with_language (Some language) attrs = with_value (with_value attrs (codes "lang") language) (codes "xml:lang") language
 
--- a `bdo` without a direction goes from left to right; an `img` never stands here, since no URI is read yet
+-- the last segment of a path: what stands behind its last `/` (RFC 3986, section 3.3)
+abbrev pub last_segment : List ℕ → List ℕ
+last_segment path = reverse (take_while (λ c. not (c == 0x2F)) (reverse path))
+
+-- what a picture's source is called: the last segment of the path of the URI that `src` writes
+abbrev pub source_name : List Attribute → List ℕ
+source_name attrs =
+    option_map_or (λ uri. last_segment uri.path) (option_and_then (λ value. uri_of (encode_utf8_all value)) (value_of attrs (codes "src"))) []
+
+-- a `bdo` without a direction goes from left to right, and an `img` without a text in its place has the name of its source
+-- (HTML 4.01, sections 8.2.4 and 13.8)
 abbrev pub with_required : Element → List Attribute → List Attribute
 with_required Bdo attrs = with_new attrs (codes "dir") (codes "ltr")
+with_required Img attrs = with_new attrs (codes "alt") (source_name attrs)
 with_required element attrs = attrs
 
 -- the attributes with those that are put in

@@ -4,45 +4,45 @@ ghost use Rattle.pur_modules.specs.declared.kinds.Content.{Content};
 ghost use Rattle.pur_modules.specs.declared.kinds.Doctype.{Doctype};
 ghost use Rattle.pur_settings.specs.Rules.{Rules};
 ghost use Rattle.pur_tree.specs.Nodes.{Nodes};
-ghost use Rattle.pur_attrs.specs.Laws.{GivesValidValues, GivesRequired, GivesOneLanguage, PutsPrefixes, GivesDistinctIds, GivesValidAttributes, KeepsNodes, KeepsFree, KeepsPermitted, KeepsForests, KeepsWords, KeepsCounts};
-ghost use Rattle.pur_attrs.specs.Rows.{LeavesOutTheSecondId, PutsThePrefix, PutsThePrefixOnce, PutsThePrefixFirst, GoesInDocumentOrder, KeepsNoIdUnlessIdsAreOn, MakesANameAnId, DropsANameBesideAnId, DropsANameBesideAnUnreadId, DropsOtherNames, TellsBothLanguages, TellsTheLanguageOfXml, TellsTheLanguageAtTheEnd, PutsADirection, KeepsADirection, KeepsWhatIsRequired, KeepsWhatIsListed, ReadsValues, ReadsClasses, DropsWhatStrictLacks, StylesText, PutsStylesInFront, StylesNothingInTransitional, DropsStylesAndLinks};
+ghost use Rattle.pur_urigate.specs.HostRules.{PlainHostRule};
+ghost use Rattle.pur_attrs.specs.Laws.{GivesValidAttributes, GivesSpellable, LeavesValid, KeepsNodes, KeepsFree, KeepsPermitted, KeepsForests, KeepsWords, KeepsCounts};
+ghost use Rattle.pur_attrs.specs.Rows.{LeavesOutTheSecondId, PutsThePrefix, PutsThePrefixOnce, PutsThePrefixFirst, GoesInDocumentOrder, KeepsNoIdUnlessIdsAreOn, MakesANameAnId, DropsANameBesideAnId, DropsANameBesideAnUnreadId, DropsOtherNames, TellsBothLanguages, TellsTheLanguageOfXml, TellsTheLanguageAtTheEnd, PutsADirection, KeepsADirection, KeepsWhatIsRequired, KeepsWhatIsListed, ReadsValues, ReadsClasses, StylesWhatStrictLacks, StylesWhatIsBehind, StylesText, PutsStylesInFront, StylesNothingInTransitional, ReadsStylesAndLinks, DropsScripts, ReadsLinks, NamesPictures, NamesPicturesByTheLastSegment, DropsDeniedHosts, KeepsOtherHosts};
 
-use pur_values::canonical_is_read_as_itself;
-
-/// Each attribute is declared and permitted, and each value is its own reading, where the prefix is one that ids may
-/// have.
-pub fn gives_valid_values()
-    ensures { GivesValidValues }
-{
-    canonical_is_read_as_itself();
-}
-
-/// Required attributes are there, where there is no picture.
-pub fn gives_required()
-    ensures { GivesRequired }
-{}
-
-/// `lang` and `xml:lang` are both absent, or both there and the same.
-pub fn gives_one_language()
-    ensures { GivesOneLanguage }
-{}
-
-/// Ids begin with the prefix.
-pub fn puts_prefixes()
-    ensures { PutsPrefixes }
-{}
-
-/// No two ids are the same.
-pub fn gives_distinct_ids()
-    ensures { GivesDistinctIds }
-{}
+use pur_cssprops::{styles_are_allowed, styles_are_read_as_themselves};
+use pur_siterule::{uris_are_allowed, uris_are_read_again};
+use pur_uri::text_is_canonical;
+use pur_values::{canonical_is_read_as_itself, values_are_allowed};
 
 /// What comes out is valid in its attributes.
 pub fn gives_valid_attributes()
     ensures { GivesValidAttributes }
 {
     canonical_is_read_as_itself();
+    values_are_allowed();
+    uris_are_read_again();
+    uris_are_allowed();
+    text_is_canonical();
+    styles_are_read_as_themselves();
+    styles_are_allowed();
 }
+
+/// What comes out may be spelled.
+pub fn gives_spellable()
+    ensures { GivesSpellable }
+{
+    canonical_is_read_as_itself();
+    values_are_allowed();
+    uris_are_read_again();
+    uris_are_allowed();
+    text_is_canonical();
+    styles_are_read_as_themselves();
+    styles_are_allowed();
+}
+
+/// Nodes with valid attributes stay as they are.
+pub fn leaves_valid()
+    ensures { LeavesValid }
+{}
 
 /// Attributes aside, all stays as it was.
 pub fn keeps_nodes()
@@ -61,12 +61,12 @@ pub fn keeps_permitted()
 
 /// A forest stays one, and texts that weren't neighbours aren't.
 pub fn keeps_forests()
-    ensures { (rules : Rules) (nodes : Nodes) → KeepsForests rules nodes }
+    ensures { (rules : Rules) (rule : PlainHostRule) (nodes : Nodes) → KeepsForests rules rule nodes }
 {}
 
 /// A word stays one, and so do the children of each element.
 pub fn keeps_words()
-    ensures { (doctype : Doctype) (content : Content) (rules : Rules) (nodes : Nodes) → KeepsWords doctype content rules nodes }
+    ensures { (doctype : Doctype) (content : Content) (rules : Rules) (rule : PlainHostRule) (nodes : Nodes) → KeepsWords doctype content rules rule nodes }
 {}
 
 /// Each character stands as often as before.
@@ -95,9 +95,16 @@ pub fn worked_examples()
     ensures listed { KeepsWhatIsListed }
     ensures values { ReadsValues }
     ensures classes { ReadsClasses }
-    ensures strict { DropsWhatStrictLacks }
+    ensures strict { StylesWhatStrictLacks }
+    ensures behind { StylesWhatIsBehind }
     ensures styled { StylesText }
     ensures styled_in_front { PutsStylesInFront }
     ensures transitional { StylesNothingInTransitional }
-    ensures styles_and_links { DropsStylesAndLinks }
+    ensures styles_and_links { ReadsStylesAndLinks }
+    ensures scripts { DropsScripts }
+    ensures links { ReadsLinks }
+    ensures pictures { NamesPictures }
+    ensures last_segment { NamesPicturesByTheLastSegment }
+    ensures denied { DropsDeniedHosts }
+    ensures other_hosts { KeepsOtherHosts }
 {}

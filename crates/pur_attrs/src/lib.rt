@@ -1,13 +1,19 @@
 //! The attributes of elements: those that are declared, permitted and read are kept with what their values are read as,
 //! ids get the site's prefix and stand once in a document, and what is missing is put in.
 //!
-//! So far there is no pass: the definition and its laws alone, each the contract of a function that does nothing.
+//! `specs/` has the definition: what becomes of the attributes of one element, and of the ids of a document as one list.
 #![tactic(auto)]
 
+mod completing;
+mod ids;
+mod keeping;
 mod laws;
+mod names;
+mod strict;
+mod validating;
 
 pub use laws::{
-    gives_distinct_ids, gives_one_language, gives_required, gives_valid_attributes,
-    gives_valid_values, keeps_counts, keeps_forests, keeps_free, keeps_nodes, keeps_permitted,
-    keeps_words, puts_prefixes, worked_examples,
+    gives_spellable, gives_valid_attributes, keeps_counts, keeps_forests, keeps_free, keeps_nodes,
+    keeps_permitted, keeps_words, leaves_valid, worked_examples,
 };
+pub use validating::validate;

@@ -2,4 +2,4 @@ use Rattle.pur_attrs.proofs.StayingLemmas.{permitted_stays}
 use Rattle.pur_attrs.proofs.laws.keeps_permitted.Goals as goal
 
 pub returns : goal.returns
-returns c permits rules nodes h = permitted_stays permits rules nodes h
+returns c permits rules rule nodes h = permitted_stays permits rules rule nodes h

@@ -1,0 +1,17 @@
+-- What is missing is put in.
+use Rattle.std.proofs.Common.{◌∙◌, [], ap, refl, codes}
+use Rattle.std.specs.Option.{option_map_or}
+use Rattle.pur_laws.proofs.Texts.{chars_ascii}
+use Rattle.pur_tokens.specs.Attributes.{with_new}
+use Rattle.pur_attrs.specs.Steps.{last_segment}
+use Rattle.pur_attrs.proofs.completing.put_required.Goals as goal
+
+pub returns-in_ok-put_new-in-Bdo : goal.returns-in_ok-put_new-in-Bdo
+returns-in_ok-put_new-in-Bdo c =
+    rw c.in-Bdo.is (rw (chars_ascii (codes "dir") refl, chars_ascii (codes "ltr") refl) at c.in_ok-put_new-in-Bdo.ensures)
+
+pub returns-in_ok-put_new-in-Img : goal.returns-in_ok-put_new-in-Img
+returns-in_ok-put_new-in-Img c =
+    let put = rw (chars_ascii (codes "alt") refl) at c.in_ok-put_new-in-Img.ensures in
+    let named = c.source_name.ensures ∙ ap (λ o. option_map_or (λ uri. last_segment uri.path) o []) c.requires in
+    rw c.in-Img.is (put ∙ ap (with_new c.args.attrs.now (codes "alt")) named)

@@ -1,0 +1,19 @@
+-- The declaration stands behind, where the element is one of these.
+use Rattle.std.proofs.Common.{◌++◌, sym, refl, codes}
+use Rattle.std.proofs.lemmas.Result.{IfOk-equal}
+use Rattle.pur_laws.proofs.Texts.{chars_ascii}
+use Rattle.pur_tokens.specs.Attributes.{value_of}
+use Rattle.pur_tokens.specs.Texts.{text_of}
+use Rattle.pur_attrs.specs.Private.Parts.{declared}
+use Rattle.pur_attrs.specs.Steps.{aligned}
+use Rattle.pur_attrs.proofs.StrictLemmas.{is-styled}
+use Rattle.pur_attrs.proofs.strict.push_align.Goals as goal
+
+pub returns : goal.returns
+returns c =
+    let style = text_of c.args.style.now in
+    let found = value_of c.args.attrs.now (codes "align") in
+    let get = rw (chars_ascii (codes "align") refl) at c.get.ensures in
+    let put = rw (chars_ascii (codes "text-align") refl, get) at c.push_declaration.ensures in
+    IfOk-equal c.push_declaration.result (text_of c.push_declaration.new.style) (style ++ declared (codes "text-align") found) _ put
+    (is-styled aligned c.args.element (λ value. codes "text-align:" ++ value ++ codes ";") found style (sym c.if-not-is_aligned.ensures))

@@ -1,0 +1,108 @@
+//! The attributes of all elements, in document order.
+
+ghost use Rattle.std.specs.Prelude.{◌≡◌, ℕ, List, true, IfOk, OnOk, OnErr};
+ghost use Rattle.pur_tree.specs.Image.{nodes_of};
+ghost use Rattle.pur_tree.specs.Nodes.{no_nodes};
+ghost use Rattle.pur_tree.specs.Spelling.{has_distinct_names};
+ghost use Rattle.pur_tokens.specs.Attributes.{is_distinct};
+ghost use Rattle.pur_attrs.specs.Attributes.{with_valid_attributes};
+ghost use Rattle.pur_attrs.specs.Steps.{kept_attributes};
+ghost use Rattle.pur_attrs.specs.Private.Along.{seen_in, seen_behind, prefixed_ids, attributes_behind, ids_put, valid_behind};
+
+use crate::completing::complete;
+use crate::ids::keep_first_id;
+use crate::keeping::{Kept, kept_attributes};
+use crate::laws::keeps_forests;
+use pur_names::Element;
+use pur_settings::Settings;
+use pur_tokens::AttrList;
+use pur_tree::{Elem, Forest, Node, push_elem, push_text_node};
+use pur_urigate::{UriGate, UriTest};
+use std::alloc::{AllocError, Global};
+use std::collections::BTreeSet;
+
+/// Goes through the attributes of all elements, in document order. The `name` of an `a` or an `img` becomes its `id`, and in
+/// Strict a style stands for some attributes. Each attribute stays that the doctype declares, the settings permit and whose value
+/// is read, with what it is read as. Ids get the site's prefix, and the first of the same stays. Where a language is told, both
+/// `lang` and `xml:lang` tell it; a `bdo` without a direction goes from left to right, and an `img` without a text in its place has
+/// the name of its source. The settings and the gate decide about each URI.
+///
+/// Each list of attributes is gone through a fixed number of times, and made anew once.
+///
+/// The error is want of memory, and the forest is then empty.
+///
+/// Source: the fourth strategy of HTML Purifier.
+pub fn validate<F: UriTest>(
+    alloc: Global,
+    settings: &Settings,
+    gate: &UriGate<F>,
+    forest: &mut Forest,
+) -> Result<(), AllocError>
+    ensures ok { OnOk result (nodes_of forest.new ≡ with_valid_attributes settings.now gate.now (nodes_of forest.old)) }
+    ensures distinct { OnOk result (has_distinct_names (nodes_of forest.new) ≡ true) }
+    ensures err { OnErr result (nodes_of forest.new ≡ no_nodes) }
+{
+    keeps_forests();
+    let mut seen = BTreeSet::new(alloc);
+    let nodes = valid_nodes(alloc, settings, gate, &mut seen, forest.take_nodes())?;
+    forest.put_nodes(nodes);
+    Ok(())
+}
+
+// What becomes of nodes, where ids were seen before them.
+fn valid_nodes<F: UriTest>(
+    alloc: Global,
+    settings: &Settings,
+    gate: &UriGate<F>,
+    seen: &mut BTreeSet<String>,
+    nodes: Vec<Node>,
+) -> Result<Vec<Node>, AllocError>
+    ensures nodes { IfOk result (λ out. nodes_of out.items ≡ valid_behind settings.now gate.now (seen_in seen.old) (nodes_of nodes.items)) }
+    ensures seen { OnOk result ((id : List ℕ) → seen_in seen.new id ≡ seen_behind (seen_in seen.old) (ids_put settings.now gate.now (nodes_of nodes.items)) id) }
+    ensures distinct { IfOk result (λ out. has_distinct_names (nodes_of out.items) ≡ true) }
+{
+    let mut out = Vec::with_capacity(alloc, nodes.len())?;
+    for node in nodes {
+        match node {
+            Node::Text(text) => push_text_node(&mut out, text)?,
+            Node::Elem(elem) => {
+                let Elem {
+                    name,
+                    attrs,
+                    children,
+                } = elem;
+                let attrs = valid_attributes(alloc, settings, gate, seen, name, attrs)?;
+                let children = valid_nodes(alloc, settings, gate, seen, children)?;
+                push_elem(
+                    &mut out,
+                    Elem {
+                        name,
+                        attrs,
+                        children,
+                    },
+                )?;
+            }
+        }
+    }
+    Ok(out)
+}
+
+// What becomes of an element's attributes, where ids were seen before.
+fn valid_attributes<F: UriTest>(
+    alloc: Global,
+    settings: &Settings,
+    gate: &UriGate<F>,
+    seen: &mut BTreeSet<String>,
+    element: Element,
+    attrs: AttrList,
+) -> Result<AttrList, AllocError>
+    ensures attrs { IfOk result (λ valid. valid ≡ attributes_behind settings.now gate.now (seen_in seen.old) element attrs) }
+    ensures seen { OnOk result ((id : List ℕ) → seen_in seen.new id
+        ≡ seen_behind (seen_in seen.old) (prefixed_ids settings.now.id_prefix (kept_attributes settings.now gate.now element attrs)) id) }
+    ensures distinct { IfOk result (λ valid. is_distinct valid ≡ true) }
+{
+    let Kept { mut attrs, source } = kept_attributes(alloc, settings, gate, element, attrs)?;
+    keep_first_id(alloc, settings.id_prefix(), seen, &mut attrs)?;
+    complete(alloc, element, &source, &mut attrs)?;
+    Ok(attrs)
+}
