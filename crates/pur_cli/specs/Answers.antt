@@ -4,6 +4,7 @@ use Rattle.std.specs.Result.{result_ok}
 use Rattle.pur_io.specs.Texts.{Name, text_named}
 use Rattle.pur_settings.specs.Settings.{settings_of}
 use Rattle.pur_settings.specs.Rules.{Rules, default_rules}
+use Rattle.pur_siterule.specs.SiteRules.{rule_of}
 use Rattle.pur_engine.specs.Purified.{purified}
 use Rattle.pur_cli.specs.Limits.{settings_limit, input_limit}
 use Rattle.pur_cli.specs.Words.{PlainCommand, command_of}
@@ -28,10 +29,11 @@ abbrev pub settings_named : List (Name × List ℕ) → Option (List ℕ) → Op
 settings_named texts None = Some default_rules
 settings_named texts (Some file) = settings_in (text_named texts (Some file))
 
--- the answer for an input under settings: an input past its limit is refused, any other is purified
+-- the answer for an input under settings: an input past its limit is refused, any other is purified, under the rule of hosts that
+-- the settings give
 abbrev pub answer_under : Rules → List ℕ → Answer
 answer_under rules input =
-    if nat_lt input_limit (length input) then refusal_of InputTooLong else record { status = Done; text = purified rules input }
+    if nat_lt input_limit (length input) then refusal_of InputTooLong else record { status = Done; text = purified rules (rule_of rules) input }
 
 -- the answer for an input: settings that aren't accepted are refused before the input is looked at
 abbrev pub answer_for : Option Rules → List ℕ → Answer

@@ -5,6 +5,7 @@
 
 mod output;
 mod program;
+mod purifying;
 mod settings;
 mod status;
 #[cfg(test)]

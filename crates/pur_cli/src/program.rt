@@ -3,8 +3,10 @@ ghost use Rattle.std.specs.Prelude.{◌≡◌, ◌≢◌, ◌⊎◌, ◌+◌, �
 ghost use Rattle.pur_io.specs.Faults.{Rose};
 ghost use Rattle.pur_io.specs.Taken.{taken_more};
 ghost use Rattle.pur_io.specs.Texts.{plain_name, text_named};
+ghost use Rattle.pur_siterule.specs.SiteRules.{rule_of};
 ghost use Rattle.pur_reader.specs.Goodness.{IsGood};
 ghost use Rattle.pur_engine.specs.Ledger.{AddsNoText};
+ghost use Rattle.pur_engine.specs.Purified.{purified};
 ghost use Rattle.pur_engine.specs.Spelled.{IsSpelled};
 ghost use Rattle.pur_cli.specs.Answers.{settings_named, answer_under, answer_to, answer_of};
 ghost use Rattle.pur_cli.specs.Choices.{ChoseSettings, ChoseInput};
@@ -15,11 +17,11 @@ ghost use Rattle.pur_cli.specs.Words.{plain_command, command_of};
 ghost use Rattle.pur_cli.specs.Writing.{TookFront};
 
 use crate::output::{complain, write_all};
+use crate::purifying::purified_text;
 use crate::settings::{NoSettings, read_settings};
 use crate::status::Status;
 use crate::texts::{INPUT_LIMIT, ReadFault, read_text};
 use crate::words::{Command, read_words};
-use pur_engine::purify;
 use pur_io::{Failed, Shelf, Sink};
 use pur_settings::Settings;
 use std::alloc::Global;
@@ -29,9 +31,9 @@ use std::alloc::Global;
 /// The words are read first (`read_words`). Then the settings text is read from the shelf, where the words name one, and
 /// refused where it has more than 65,536 bytes or an offence; without one the settings are the defaults. Then the input is
 /// read, and refused where it has more than 1,048,576 bytes. Of each text one byte past its limit is asked for, to tell that
-/// it has one. The input's purification under the settings is written to `out`. The answer is the status that the program
-/// ends with (`Status`), and its line is written to `err`; a fault of `err` changes no status. The whole text is computed
-/// before the first write to `out`, and from there on no memory is taken.
+/// it has one. The input's purification under the settings and the rule of hosts that they give is written to `out`. The answer
+/// is the status that the program ends with (`Status`), and its line is written to `err`; a fault of `err` changes no status. The
+/// whole text is computed before the first write to `out`, and from there on no memory is taken.
 ///
 /// Clauses on texts hold where the shelf tells its texts and the streams tell what they take, as those in
 /// memory do. Want of memory is the one answer without a cause.
@@ -71,10 +73,18 @@ pub fn run<H: Shelf, O: Sink, E: Sink>(
         IsSpelled (answer_of (map string_bytes words.now) texts).text) }
     ensures good { result ≡ code_of Status.Done → IfSome (H.texts shelf.old) (λ texts.
         IfSome (command_of (map string_bytes words.now)) (λ command. IfSome (settings_named texts command.settings) (λ rules.
-        IsGood rules (answer_of (map string_bytes words.now) texts).text))) }
+        IsGood rules (rule_of rules) (answer_of (map string_bytes words.now) texts).text))) }
     ensures adds_no_text { result ≡ code_of Status.Done → IfSome (H.texts shelf.old) (λ texts.
         IfSome (command_of (map string_bytes words.now)) (λ command.
         AddsNoText (text_named texts command.input) (answer_of (map string_bytes words.now) texts).text)) }
+    ensures unchanged { result ≡ code_of Status.Done → IfSome (H.texts shelf.old) (λ texts.
+        IfSome (command_of (map string_bytes words.now)) (λ command. IfSome (settings_named texts command.settings) (λ rules.
+        IsGood rules (rule_of rules) (text_named texts command.input) →
+        (answer_of (map string_bytes words.now) texts).text ≡ text_named texts command.input))) }
+    ensures twice { result ≡ code_of Status.Done → IfSome (H.texts shelf.old) (λ texts.
+        IfSome (command_of (map string_bytes words.now)) (λ command. IfSome (settings_named texts command.settings) (λ rules.
+        purified rules (rule_of rules) (answer_of (map string_bytes words.now) texts).text
+        ≡ (answer_of (map string_bytes words.now) texts).text))) }
     ensures nothing { result ≢ code_of Status.Done → result ≢ code_of Status.CannotWrite →
         O.taken out.new ≡ O.taken out.old }
     ensures front { result ≡ code_of Status.CannotWrite → IfSome (H.texts shelf.old) (λ texts.
@@ -149,7 +159,7 @@ fn filter_under<H: Shelf, O: Sink>(
         Err(ReadFault::TooLong) => return Status::InputTooLong,
         Err(ReadFault::Memory) => return Status::OutOfMemory,
     };
-    let text = match purify(alloc, settings, input.as_slice()) {
+    let text = match purified_text(alloc, settings, input.as_slice()) {
         Ok(text) => text,
         Err(_) => return Status::OutOfMemory,
     };

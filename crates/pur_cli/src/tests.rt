@@ -88,6 +88,35 @@ fn purifies_under_the_settings_that_are_named(rt: HostRuntime) -> Result<(), Fai
     Ok(())
 }
 
+// The gate is the one of the settings: the host that they deny and those below it, but none whose name merely ends like it.
+#[test]
+fn nothing_leads_to_denied_hosts(rt: HostRuntime) -> Result<(), Fail> {
+    let rows: [(&str, &[u8], &[u8]); 3] = [
+        (
+            "a_link_to_a_host_below",
+            b"<a href=\"http://x.bad.com/\">y</a>",
+            b"<a>y</a>",
+        ),
+        (
+            "a_link_to_another_host",
+            b"<a href=\"http://notbad.com/\">y</a>",
+            b"<a href=\"http://notbad.com/\">y</a>",
+        ),
+        (
+            "a_picture",
+            b"<img src=\"http://bad.com/x.png\" alt=\"x\" />",
+            b"",
+        ),
+    ];
+    let rules = b"denied_hosts = [\"bad.com\"]";
+    for (name, input, out) in rows {
+        let ending = run_over(rt.alloc(), Some("--settings rules"), rules, input, ROOM)?;
+        assert_eq!(rt; ending.status, 0, "at {name}");
+        assert_eq!(rt; ending.out.taken(), out, "at {name}");
+    }
+    Ok(())
+}
+
 // Whether a run ended with this status and this line on standard error, and wrote nothing to standard output.
 fn is_refusal(ending: &Ending, status: u8, line: &str) -> bool {
     ending.status == status

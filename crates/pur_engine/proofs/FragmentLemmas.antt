@@ -1,10 +1,12 @@
-use Rattle.std.proofs.Common.{◌≡◌, ◌≤◌, ◌+◌, ℕ, List, refl, sym, ap, ◌∙◌, true, arith}
+use Rattle.std.proofs.Common.{◌≡◌, ◌≤◌, ◌+◌, ℕ, List, refl, sym, ap, ◌∙◌, true, arith, length}
+use Rattle.std.proofs.lemmas.Bool.{and_parts}
 use Rattle.pur_modules.specs.declared.kinds.Content.{Content}
 use Rattle.pur_modules.specs.declared.kinds.Content.TheVariants.{Inline, Flow, Block, AddressMix, Items, Pairs, TableParts, Rows, Cells, Cols, Nothing}
 use Rattle.pur_models.specs.Laws.{takes_any_number}
+use Rattle.pur_settings.specs.Prefixes.{begins_an_id, is_id_prefix}
 use Rattle.pur_settings.specs.Rules.{is_for_fragments}
 use Rattle.pur_tree.specs.Nodes.{Nodes, is_sound}
-use Rattle.std.specs.Prelude.{encode_utf8_all}
+use Rattle.std.specs.Prelude.{encode_utf8_all, nat_le}
 use Rattle.pur_tree.specs.Spelling.{AreSpelled, Spells, spelling_of}
 use Rattle.pur_tree.specs.Tokens.{Token, IsTreeOf, tree_of}
 use Rattle.pur_tree.proofs.TreeLemmas.{tree_of-tokens}
@@ -20,6 +22,10 @@ at_most a tree written lost all below same sum = omega arith
 -- what is written of nodes that are spelled so
 pub written : (nodes : Nodes) {bytes : List ℕ} → Spells nodes (spelling_of nodes) → bytes ≡ encode_utf8_all (spelling_of nodes) → AreSpelled nodes bytes
 written nodes spells same = record { text = spelling_of nodes; spells = spells; in_utf8 = same }
+
+-- what may stand in front of ids begins an id
+pub prefix_begins : (text : List ℕ) → is_id_prefix text ≡ true → begins_an_id text ≡ true
+prefix_begins text form = (and_parts (nat_le (length text) 64) (begins_an_id text) form).1
 
 -- what a fragment may hold takes any number of its letters
 pub takes_any : (content : Content) → is_for_fragments content ≡ true → takes_any_number content ≡ true

@@ -1,2 +1,5 @@
 pub mod FragmentLemmas
-pub mod BareLemmas
+pub mod GoodLemmas
+pub mod ReadingLemmas
+pub mod SpelledLemmas
+pub mod TextLemmas

@@ -1,4 +1,3 @@
-pub mod Bare
 pub mod Ledger
 pub mod Purified
 pub mod Spelled

@@ -1,5 +1,4 @@
-//! The engine: the passes of the filter in a row. `specs/` says what the purification of an input is. So far all
-//! attributes are taken off.
+//! The engine: the passes of the filter in a row. `specs/` says what the purification of an input is.
 #![tactic(auto)]
 
 mod laws;

@@ -1,9 +1,34 @@
 //! The passes in a row with ample memory: inputs with their purifications, worked out by hand.
 
-use crate::purify;
+ghost use Rattle.pur_urigate.specs.Asking.{AnswersBy};
+
 use pur_settings::Settings;
-use std::alloc::Global;
+use pur_siterule::host_rule;
+use pur_uri::Uri;
+use pur_urigate::{HostRule, UriGate, UriTest};
+use std::alloc::{AllocError, Global};
 use std::test::Fail;
+
+// The purification of an input under settings, where a closure answers by their rule of hosts.
+fn gated<F: UriTest + Drop>(
+    alloc: Global,
+    settings: &Settings,
+    kept: HostRule,
+    filter: F,
+    input: &[u8],
+) -> Result<Vec<u8>, AllocError>
+    requires { AnswersBy F.may_ask F.answers filter kept }
+{
+    let gate = UriGate::new(kept, filter);
+    crate::purify(alloc, settings, &gate, input)
+}
+
+// The purification of an input under settings and their rule of hosts.
+fn purify(alloc: Global, settings: &Settings, input: &[u8]) -> Result<Vec<u8>, AllocError> {
+    let own = host_rule(alloc, settings)?;
+    let kept = host_rule(alloc, settings)?;
+    gated(alloc, settings, kept, |uri: &Uri| own.admits(uri), input)
+}
 
 #[test]
 fn reads_any_bytes(rt: HostRuntime) -> Result<(), Fail> {
@@ -68,9 +93,9 @@ static UNDER_DEFAULTS: [(&str, &str, &str); 46] = [
     ("an_unknown_tag_is_passed_over", "a<q1>b</q1>c", "abc"),
     ("an_empty_tag_ends_at_once", "<p/>x", "<p></p>x"),
     (
-        "a_start_tag_loses_its_attributes",
+        "a_start_tag_keeps_what_it_may",
         "<P CLASS=a>x",
-        "<p>x</p>",
+        "<p class=\"a\">x</p>",
     ),
     ("an_end_tag_without_a_start_is_dropped", "a</p>b", "ab"),
     ("text_round_a_paragraph", "x<p>y</p>z</p>", "x<p>y</p>z"),
@@ -465,7 +490,7 @@ static UNDER_SETTINGS: [(&str, &str, &str, &str); 16] = [
         "a_centered_paragraph_in_strict",
         "doctype = \"strict\"",
         "<center><p>x</center>",
-        "<div><p>x</p></div>",
+        "<div style=\"text-align:center;\"><p>x</p></div>",
     ),
     (
         "a_head_gives_its_rows_where_no_body_is_permitted",
@@ -503,6 +528,175 @@ fn purifies_under_settings(rt: HostRuntime) -> Result<(), Fail> {
         let text = written(rt.alloc(), document, input)?;
         assert_eq!(rt; text.as_slice(), want.as_bytes(), "at {name}");
     }
+    Ok(())
+}
+
+// A name, a text of settings, an input and its purification under these settings, where attributes are made valid.
+static OF_ATTRIBUTES: [(&str, &str, &str, &str); 25] = [
+    (
+        "a_script_is_no_link",
+        "",
+        "<a href=\"javascript:alert(1)\">x</a>",
+        "<a>x</a>",
+    ),
+    (
+        "a_script_in_mixed_case_is_no_link",
+        "",
+        "<a href=\"JavaScript:x\">x</a>",
+        "<a>x</a>",
+    ),
+    (
+        "a_link_is_written_in_one_way",
+        "",
+        "<a href=\"HTTP://Example.COM:80/%7euser?q=a b\">x</a>",
+        "<a href=\"http://example.com/~user?q=a%20b\">x</a>",
+    ),
+    (
+        "a_picture_is_named_by_its_source",
+        "",
+        "<img src=\"x.png\">",
+        "<img src=\"x.png\" alt=\"x.png\" />",
+    ),
+    ("a_picture_without_a_source_goes", "", "<img>", ""),
+    (
+        "a_style_is_written_in_one_way",
+        "",
+        "<p style=\"COLOR: Red; position:fixed; color:#0F0\">x</p>",
+        "<p style=\"color:#00ff00;\">x</p>",
+    ),
+    (
+        "a_long_style_is_written_in_one_way",
+        "",
+        "<p style=\"margin:0px AUTO; border: solid 1px #F00; font-family: &quot;Times New Roman&quot; , Serif; background-image:url('HTTP://E.com/a.png'); width:+010.50PX\">x</p>",
+        "<p style=\"margin:0 auto;border:1px solid #ff0000;font-family:'Times New Roman',serif;background-image:url(&quot;http://e.com/a.png&quot;);width:10.5px;\">x</p>",
+    ),
+    (
+        "a_style_of_nothing_goes",
+        "",
+        "<p style=\"position:fixed\">x</p>",
+        "<p>x</p>",
+    ),
+    (
+        "a_center_is_a_style_in_strict",
+        "doctype = \"strict\"",
+        "<center>x</center>",
+        "<div style=\"text-align:center;\">x</div>",
+    ),
+    (
+        "a_font_is_a_style_in_strict",
+        "doctype = \"strict\"",
+        "<font color=\"red\" size=\"7\">x</font>",
+        "<span style=\"color:#ff0000;font-size:300%;\">x</span>",
+    ),
+    (
+        "an_alignment_is_a_style_in_strict",
+        "doctype = \"strict\"",
+        "<p align=\"center\">x</p>",
+        "<p style=\"text-align:center;\">x</p>",
+    ),
+    (
+        "a_line_under_text_is_a_style_in_strict",
+        "doctype = \"strict\"",
+        "<p>a<u>b</u></p>",
+        "<p>a<span style=\"text-decoration:underline;\">b</span></p>",
+    ),
+    (
+        "the_first_of_equal_ids_stays",
+        "ids = true",
+        "<p id=\"a\">x</p><p id=\"a\">y</p>",
+        "<p id=\"a\">x</p><p>y</p>",
+    ),
+    (
+        "an_id_goes_where_ids_are_off",
+        "",
+        "<p id=\"a\">x</p>",
+        "<p>x</p>",
+    ),
+    (
+        "an_id_gets_the_prefix",
+        "ids = true\nid_prefix = \"u-\"",
+        "<p id=\"a\">x</p>",
+        "<p id=\"u-a\">x</p>",
+    ),
+    (
+        "an_id_with_the_prefix_stays",
+        "ids = true\nid_prefix = \"u-\"",
+        "<p id=\"u-a\">x</p>",
+        "<p id=\"u-a\">x</p>",
+    ),
+    (
+        "a_name_becomes_an_id",
+        "ids = true\nid_prefix = \"u-\"",
+        "<a name=\"t\">x</a>",
+        "<a id=\"u-t\">x</a>",
+    ),
+    (
+        "a_link_in_a_link_is_dropped_with_its_attributes",
+        "",
+        "<a href=\"x\">1<b><a href=\"y\">2</a></b></a>",
+        "<a href=\"x\">1<b>2</b></a>",
+    ),
+    (
+        "a_picture_in_pre_is_dropped",
+        "",
+        "<pre><b>a<img src=\"x\"></b></pre>",
+        "<pre><b>a</b></pre>",
+    ),
+    (
+        "a_language_is_told_twice",
+        "",
+        "<p lang=\"EN\">x</p>",
+        "<p lang=\"en\" xml:lang=\"en\">x</p>",
+    ),
+    (
+        "a_direction_is_put_in",
+        "",
+        "<bdo>x</bdo>",
+        "<bdo dir=\"ltr\">x</bdo>",
+    ),
+    (
+        "a_host_under_a_denied_one_is_denied",
+        "denied_hosts = [\"bad.com\"]",
+        "<a href=\"http://x.bad.com/\">y</a>",
+        "<a>y</a>",
+    ),
+    (
+        "a_host_that_ends_like_a_denied_one_is_not",
+        "denied_hosts = [\"bad.com\"]",
+        "<a href=\"http://notbad.com/\">y</a>",
+        "<a href=\"http://notbad.com/\">y</a>",
+    ),
+    (
+        "a_picture_of_a_denied_host_goes",
+        "denied_hosts = [\"bad.com\"]",
+        "<img src=\"http://bad.com/x.png\" alt=\"x\" />",
+        "",
+    ),
+    (
+        "numbers_are_written_in_one_way",
+        "",
+        "<table border=\"007px\" width=\"150%\"><tr><td colspan=\"0\" align=\"RIGHT\">x",
+        "<table border=\"7\" width=\"100%\"><tr><td align=\"right\">x</td></tr></table>",
+    ),
+];
+
+#[test]
+fn makes_attributes_valid(rt: HostRuntime) -> Result<(), Fail> {
+    for (name, document, input, want) in OF_ATTRIBUTES {
+        let text = written(rt.alloc(), document, input)?;
+        assert_eq!(rt; text.as_slice(), want.as_bytes(), "at {name}");
+    }
+    Ok(())
+}
+
+// A post as a forum has them, spelled as it is written.
+static POST: &str =
+    "<p>Hello <strong>all</strong>, see <a href=\"http://example.com/a?b=1&amp;c=2\" title=\"A &quot;page&quot;\">this page</a>.</p>\n<ul>\n<li>one</li>\n<li style=\"color:#ff0000;\">two</li>\n</ul>\n<table border=\"1\" summary=\"t\">\n<tr><th scope=\"col\">k</th><td align=\"right\">1</td></tr>\n</table>\n<p><img src=\"http://example.com/x.png\" alt=\"x\" width=\"40\" height=\"30\" /><br />\n&lt;3 © 2024</p>\n";
+
+#[test]
+fn a_good_post_stays(rt: HostRuntime) -> Result<(), Fail> {
+    let text = purify(rt.alloc(), &Settings::defaults(), POST.as_bytes())?;
+    assert_eq!(rt; text.as_slice(), POST.as_bytes());
     Ok(())
 }
 
@@ -588,6 +782,26 @@ fn copies_end_with_the_allowance(rt: HostRuntime) -> Result<(), Fail> {
     }
     let text = purify(alloc, &Settings::defaults(), input.as_bytes())?;
     assert_eq!(rt; text.len(), 467_452);
+    assert_eq!(rt; text.as_slice(), want.as_bytes());
+    Ok(())
+}
+
+#[test]
+fn a_long_title_is_carried_on(rt: HostRuntime) -> Result<(), Fail> {
+    let alloc = rt.alloc();
+    let mut title = String::new(alloc);
+    times(&mut title, 600_000, "A")?;
+    let mut input = String::new(alloc);
+    input.push_str("<b title=\"")?;
+    input.push_str(title.as_str())?;
+    input.push_str("\">1<p>2<p>3")?;
+    let mut want = String::new(alloc);
+    want.push_str("<b title=\"")?;
+    want.push_str(title.as_str())?;
+    want.push_str("\">1</b><p><b title=\"")?;
+    want.push_str(title.as_str())?;
+    want.push_str("\">2</b></p><p>3</p>")?;
+    let text = purify(alloc, &Settings::defaults(), input.as_bytes())?;
     assert_eq!(rt; text.as_slice(), want.as_bytes());
     Ok(())
 }

@@ -6,8 +6,10 @@ use Rattle.pur_io.specs.Texts.{Name, text_named}
 use Rattle.pur_io.specs.declared.traits.Shelf as shelf
 use Rattle.pur_io.specs.declared.traits.Sink as sink
 use Rattle.pur_settings.specs.Rules.{Rules}
+use Rattle.pur_siterule.specs.SiteRules.{rule_of}
 use Rattle.pur_reader.specs.Goodness.{IsGood}
 use Rattle.pur_engine.specs.Ledger.{AddsNoText}
+use Rattle.pur_engine.specs.Purified.{purified}
 use Rattle.pur_engine.specs.Spelled.{IsSpelled}
 use Rattle.pur_cli.specs.Answers.{Answer}
 use Rattle.pur_cli.specs.Choices.{ChoseFile}
@@ -30,8 +32,12 @@ pub record Ends {H O : Type 0} (h : shelf.Ghosts H) (o : sink.Ghosts O) (command
   -- what was written
   pub whole : status ≡ Done → IfSome (h.texts before) (λ texts. o.taken written ≡ taken_more (o.taken out) (answer texts).text)
   pub spelled : status ≡ Done → IfSome (h.texts before) (λ texts. IsSpelled (answer texts).text)
-  pub good : status ≡ Done → IfSome (h.texts before) (λ texts. IfSome (accepted texts) (λ rules. IsGood rules (answer texts).text))
+  pub good : status ≡ Done → IfSome (h.texts before) (λ texts. IfSome (accepted texts) (λ rules. IsGood rules (rule_of rules) (answer texts).text))
   pub adds_no_text : status ≡ Done → IfSome (h.texts before) (λ texts. AddsNoText (text_named texts command.input) (answer texts).text)
+  pub unchanged : status ≡ Done → IfSome (h.texts before) (λ texts. IfSome (accepted texts) (λ rules.
+      IsGood rules (rule_of rules) (text_named texts command.input) → (answer texts).text ≡ text_named texts command.input))
+  pub twice : status ≡ Done → IfSome (h.texts before) (λ texts. IfSome (accepted texts) (λ rules.
+      purified rules (rule_of rules) (answer texts).text ≡ (answer texts).text))
   pub nothing : status ≢ Done → status ≢ CannotWrite → o.taken written ≡ o.taken out
   pub front : status ≡ CannotWrite → IfSome (h.texts before) (λ texts. TookFront (o.taken out) (o.taken written) (answer texts).text)
   -- what the counts of faults did

@@ -8,15 +8,14 @@ use Rattle.pur_foreign.specs.Keeping.{kept_behind}
 use Rattle.pur_wellform.specs.Closing.{closed}
 use Rattle.pur_wellform.specs.Progress.{closed_behind}
 use Rattle.pur_wellform.specs.Standing.{can_be_closed}
-use Rattle.pur_engine.specs.Bare.{bare}
 use Rattle.pur_engine.proofs.passes.closed_tree.Given as goal
 
 abbrev pub invariant-reading : goal.invariant-reading
-invariant-reading l = record {
+invariant-reading g l = record {
   rules : l.closing.rules ≡ l.settings;
-  can : list_all (can_be_closed l.settings) (bare (kept_behind l.settings l.removal l.lexer)) ≡ true;
-  same : closed_behind l.closing (bare (kept_behind l.settings l.removal l.lexer)) ≡ closed l.settings (bare (without_foreign l.settings (tokens_of (chars l.text))));
+  can : list_all (can_be_closed l.settings) (kept_behind l.settings l.gate l.removal l.lexer) ≡ true;
+  same : closed_behind l.closing (kept_behind l.settings l.gate l.removal l.lexer) ≡ closed l.settings (without_foreign l.settings l.gate (tokens_of (chars l.text)));
 }
 
 abbrev pub decreases-reading : goal.decreases-reading
-decreases-reading l = length l.lexer
+decreases-reading g l = length l.lexer
