@@ -12,6 +12,16 @@ def distinct_names(size):
     return ("<font" + names)[: size - 1].encode() + b">"
 
 
+def numbered(piece):
+    """A piece again and again, each with its number."""
+    return lambda size: b"".join(piece % number for number in range(size // (len(piece) + 4)))[:size]
+
+
+def declarations(size):
+    """One style that sets one property again and again."""
+    return b"<p style='" + b"color:red;" * ((size - 20) // 10) + b"'>x"
+
+
 ARTICLE = """<h2>How the {0}th loaf was baked</h2>
 <p class="lead">Flour, water, salt &amp; time: that is all there is to it, and each of them <em>matters</em>.</p>
 <!-- the editor's note of article {0} -->
@@ -83,5 +93,16 @@ KINDS = {
     "rows and bodies in turn": repeated(b"<tr><td>a<tbody><tr><td>b</tbody>", head=b"<table>"),
     "surplus heads": repeated(b"<thead><tr><td>a</thead>", head=b"<table>"),
     "surplus captions": repeated(b"<caption>a</caption>", head=b"<table>"),
+    "distinct ids": numbered(b"<p id=i%d>"),
+    "one id again": repeated(b"<p id=i>"),
+    "distinct classes in a class": lambda size: b"<p class='" + numbered(b"c%d ")(size - 12) + b"'>",
+    "links": repeated(b"<a href=/a>b</a>"),
+    "links that don't pass": repeated(b"<a href=javascript:b>c</a>"),
+    "pictures": repeated(b"<img src=a>"),
+    "one long URI": repeated(b"%20", head=b"<a href='/", tail=b"'>b"),
+    "declarations of one property": declarations,
+    "styles": repeated(b"<b style=color:red>a</b>"),
+    "parentheses in a style": repeated(b"(", head=b"<p style='color:", tail=b"'>x"),
+    "families in a style": repeated(b"a,", head=b"<p style='font-family:", tail=b"'>x"),
     "tables in tables": repeated(b"<table><tr><td>a"),
 }
