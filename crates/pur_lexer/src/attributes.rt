@@ -27,6 +27,7 @@ pub(crate) fn cut_tag_end(
     'attributes: while !rest.is_empty() {
         let (skipped, behind) = cut_at(rest, Stop::Gap);
         if let Some(behind) = behind.strip_prefix('>') {
+            attrs.drop_index();
             return Ok(Some((attrs, skipped.ends_with('/'), behind)));
         }
         rest = push_attribute(alloc, &mut attrs, behind)?;

@@ -15,7 +15,8 @@ use std::marker::Model;
 /// The attributes of a tag: pairs of a name and a value in the order of their coming, no two with the same name.
 ///
 /// Names are compared to the letter; callers lower them first. The list grows by allocations, and its calls that have
-/// no `Result` take no memory.
+/// no `Result` take no memory. A long list that grows has an index of its names. Where it has none, each search goes along
+/// all names; so a copy and a list that gave its index back are for a few searches, and get one when a pair is added.
 ///
 /// Source: XML 1.0, section 3.1.
 #[derive(Drop)]
@@ -150,6 +151,13 @@ impl AttrList {
         let AttrList { pairs } = self;
         let pairs = pairs.into_pairs()?;
         Ok(pairs)
+    }
+
+    /// Gives back the index and all room that no pair takes, for a list that is finished.
+    pub fn drop_index(&mut self)
+        ensures { self.new ≡ self.old }
+    {
+        self.pairs.drop_index();
     }
 
     /// An equal list. Fails only where memory is wanting.

@@ -1,6 +1,6 @@
 //! Tokens of HTML and the attribute lists of their tags. An attribute list is seen as the list of its pairs of name and
 //! value, in the order of their coming, with no two names equal, and each of its calls is exact on that list. A long list is
-//! indexed, so that a tag with many names doesn't cost a search along all of them for each.
+//! indexed while it grows, so that a tag with many names doesn't cost a search along all of them for each.
 
 #![tactic(auto)]
 

@@ -1,10 +1,13 @@
-//! Where an attribute list keeps its pairs: a short list without an index, or a long one with an index of its names.
+//! Where an attribute list keeps its pairs: in a plain vector, or in one that has an index of its names beside it.
 //!
 //! Nearly all tags that have attributes have one or two, and a `SmallVec` with two places inside needs no allocation of its
 //! own for them. With one place a second pair takes a tenth more time; with four the pairs are no faster, and a list in a tree
 //! holds twice the memory. A search along a few names is faster than a look-up. But a stranger can write a tag with more
-//! than a hundred thousand names, where a search along all of them for each of them would take quadratic time. So the
-//! seventeenth pair moves all of them into the long form.
+//! than a hundred thousand names, where a search along all of them for each of them would take quadratic time. So a plain
+//! list that has sixteen pairs or more moves all of them into the indexed form when it is to grow by another.
+//!
+//! The index holds as much memory as the pairs, and only a list that grows long needs it. So a copy is plain, however long
+//! it is, and a list that is finished gives its index back.
 ghost use Rattle.std.specs.Prelude.{◌≡◌, ◌<◌, ◌++◌, [], ◌∷◌, false, length, map, remove, slice_get, Some, OnOk, OnErr, IfOk, IfSome, IfNone, IsTrue};
 ghost use Rattle.std.specs.Str.{chars};
 ghost use Rattle.pur_tokens.specs.Texts.{text_of};
@@ -17,37 +20,38 @@ use crate::indexed_pairs::IndexedPairs;
 use crate::stored_pair::{Pair, position_among};
 use smallvec::SmallVec;
 use std::alloc::{AllocError, Global};
+use std::mem;
 
-// The most pairs that are searched one by one.
+// The most pairs that a list without an index grows to.
 const FEW: usize = 16;
 
-/// Pairs in the order in which they were put, few or many.
+/// Pairs in the order in which they were put, without an index of their names or with one.
 #[derive(Drop)]
 pub(crate) enum PairsInOrder {
-    Few(SmallVec<Pair, 2>),
-    Many(IndexedPairs),
+    Plain(SmallVec<Pair, 2>),
+    Indexed(IndexedPairs),
 }
 
 impl PairsInOrder {
-    /// No pairs. Takes no memory.
-    pub(crate) fn few(alloc: Global) -> PairsInOrder
+    /// No pairs, and no index. Takes no memory.
+    pub(crate) fn plain(alloc: Global) -> PairsInOrder
         ensures { attributes_of result ≡ [] }
     {
-        PairsInOrder::Few(SmallVec::new(alloc))
+        PairsInOrder::Plain(SmallVec::new(alloc))
     }
 
-    // No pairs, in the form for many. Takes no memory.
-    fn many(alloc: Global) -> PairsInOrder
+    // No pairs, and an index. Takes no memory.
+    fn indexed(alloc: Global) -> PairsInOrder
         ensures { attributes_of result ≡ [] }
     {
-        PairsInOrder::Many(IndexedPairs::new(alloc))
+        PairsInOrder::Indexed(IndexedPairs::new(alloc))
     }
 
     /// The allocator of the pairs.
     pub(crate) fn allocator(&self) -> Global {
         match self {
-            PairsInOrder::Few(few) => *few.allocator(),
-            PairsInOrder::Many(many) => many.allocator(),
+            PairsInOrder::Plain(plain) => *plain.allocator(),
+            PairsInOrder::Indexed(indexed) => indexed.allocator(),
         }
     }
 
@@ -56,8 +60,8 @@ impl PairsInOrder {
         ensures { result ≡ length (attributes_of self.now) }
     {
         match self {
-            PairsInOrder::Few(few) => few.len(),
-            PairsInOrder::Many(many) => many.len(),
+            PairsInOrder::Plain(plain) => plain.len(),
+            PairsInOrder::Indexed(indexed) => indexed.len(),
         }
     }
 
@@ -67,8 +71,8 @@ impl PairsInOrder {
         ensures { slice_get (names_of (attributes_of self.now)) at ≡ Some (chars result.now) }
     {
         match self {
-            PairsInOrder::Few(few) => few.as_slice()[at].name.as_str(),
-            PairsInOrder::Many(many) => many.name_at(at),
+            PairsInOrder::Plain(plain) => plain.as_slice()[at].name.as_str(),
+            PairsInOrder::Indexed(indexed) => indexed.name_at(at),
         }
     }
 
@@ -78,8 +82,8 @@ impl PairsInOrder {
         ensures { slice_get (values_of (attributes_of self.now)) at ≡ Some (chars result.now) }
     {
         match self {
-            PairsInOrder::Few(few) => few.as_slice()[at].value.as_str(),
-            PairsInOrder::Many(many) => many.value_at(at),
+            PairsInOrder::Plain(plain) => plain.as_slice()[at].value.as_str(),
+            PairsInOrder::Indexed(indexed) => indexed.value_at(at),
         }
     }
 
@@ -89,8 +93,8 @@ impl PairsInOrder {
         ensures absent { IfNone result (has_name (attributes_of self.now) (chars name.now) ≡ false) }
     {
         match self {
-            PairsInOrder::Few(few) => position_among(few.as_slice(), name),
-            PairsInOrder::Many(many) => many.position(name),
+            PairsInOrder::Plain(plain) => position_among(plain.as_slice(), name),
+            PairsInOrder::Indexed(indexed) => indexed.position(name),
         }
     }
 
@@ -100,8 +104,8 @@ impl PairsInOrder {
         ensures { attributes_of self.new ≡ with_value_at (attributes_of self.old) at (text_of value) }
     {
         match self {
-            PairsInOrder::Few(few) => few.as_mut_slice()[at].value = value,
-            PairsInOrder::Many(many) => many.replace(at, value),
+            PairsInOrder::Plain(plain) => plain.as_mut_slice()[at].value = value,
+            PairsInOrder::Indexed(indexed) => indexed.replace(at, value),
         }
     }
 
@@ -112,14 +116,14 @@ impl PairsInOrder {
         ensures { attributes_of self.new ≡ remove (attributes_of self.old) at }
     {
         match self {
-            PairsInOrder::Few(few) => {
-                few.remove(at);
+            PairsInOrder::Plain(plain) => {
+                plain.remove(at);
             }
-            PairsInOrder::Many(many) => many.take_out(at),
+            PairsInOrder::Indexed(indexed) => indexed.take_out(at),
         }
     }
 
-    /// Appends a pair whose name is new, and goes over to the form for many where the list grows long.
+    /// Appends a pair whose name is new, and goes over to the indexed form where the list grows long.
     pub(crate) fn push(&mut self, name: String, value: String) -> Result<(), AllocError>
         requires distinct { IsTrue (is_distinct (attributes_of self.old)) }
         requires absent { has_name (attributes_of self.old) (text_of name) ≡ false }
@@ -130,13 +134,17 @@ impl PairsInOrder {
         self.put(name, value)
     }
 
-    // Goes over to the form for many where there are no longer few.
+    // Goes over to the indexed form where a plain list is no longer short.
     fn make_room(&mut self) -> Result<(), AllocError>
         requires { IsTrue (is_distinct (attributes_of self.old)) }
         ensures { attributes_of self.new ≡ attributes_of self.old }
     {
-        if self.len() == FEW {
-            let empty = PairsInOrder::many(self.allocator());
+        let grows_long = match self {
+            PairsInOrder::Plain(plain) => plain.len() >= FEW,
+            PairsInOrder::Indexed(_) => false,
+        };
+        if grows_long {
+            let empty = PairsInOrder::indexed(self.allocator());
             *self = self.copied_into(empty)?;
         }
         Ok(())
@@ -149,11 +157,11 @@ impl PairsInOrder {
         ensures err { OnErr result (attributes_of self.new ≡ attributes_of self.old) }
     {
         match self {
-            PairsInOrder::Few(few) => {
-                few.push(Pair { name, value })?;
+            PairsInOrder::Plain(plain) => {
+                plain.push(Pair { name, value })?;
             }
-            PairsInOrder::Many(many) => {
-                many.put(name, value)?;
+            PairsInOrder::Indexed(indexed) => {
+                indexed.put(name, value)?;
             }
         }
         Ok(())
@@ -164,25 +172,36 @@ impl PairsInOrder {
         ensures { IfOk result (λ pairs. map attribute_of pairs.items ≡ attributes_of self) }
     {
         match self {
-            PairsInOrder::Few(few) => {
-                let pairs = few.into_vec()?;
+            PairsInOrder::Plain(plain) => {
+                let pairs = plain.into_vec()?;
                 Ok(pairs)
             }
-            PairsInOrder::Many(many) => Ok(many.into_pairs()),
+            PairsInOrder::Indexed(indexed) => Ok(indexed.into_pairs()),
         }
     }
 
-    /// A copy in the same form.
+    /// A plain copy, with no more room than its pairs take.
     pub(crate) fn copy(&self) -> Result<PairsInOrder, AllocError>
         requires { IsTrue (is_distinct (attributes_of self.now)) }
         ensures { IfOk result (λ copy. attributes_of copy ≡ attributes_of self.now) }
     {
-        let alloc = self.allocator();
-        let empty = match self {
-            PairsInOrder::Few(_) => PairsInOrder::few(alloc),
-            PairsInOrder::Many(_) => PairsInOrder::many(alloc),
-        };
-        self.copied_into(empty)
+        let room = SmallVec::with_capacity(self.allocator(), self.len())?;
+        self.copied_into(PairsInOrder::Plain(room))
+    }
+
+    /// Gives back the index and all room that no pair takes. Takes no memory.
+    pub(crate) fn drop_index(&mut self)
+        ensures { attributes_of self.new ≡ attributes_of self.old }
+    {
+        match self {
+            PairsInOrder::Plain(plain) => plain.shrink_to_fit(),
+            PairsInOrder::Indexed(indexed) => {
+                let empty = IndexedPairs::new(indexed.allocator());
+                let mut pairs = mem::replace(indexed, empty).into_pairs();
+                pairs.shrink_to_fit();
+                *self = PairsInOrder::Plain(SmallVec::from_vec(pairs));
+            }
+        }
     }
 
     // A copy of each pair, put into a form that holds none.

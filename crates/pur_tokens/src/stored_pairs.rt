@@ -134,7 +134,17 @@ impl StoredPairs {
         }
     }
 
-    /// A copy in the same form. That of a list that never had a pair takes no memory.
+    /// Gives back all memory but that of the pairs. Takes none.
+    pub(crate) fn drop_index(&mut self)
+        ensures { stored_of self.new ≡ stored_of self.old }
+    {
+        match &mut self.held {
+            Some(pairs) => pairs.drop_index(),
+            None => {}
+        }
+    }
+
+    /// A copy without an index. That of a list that never had a pair takes no memory.
     pub(crate) fn copy(&self) -> Result<StoredPairs, AllocError>
         requires { IsTrue (is_distinct (stored_of self.now)) }
         ensures { IfOk result (λ copy. stored_of copy ≡ stored_of self.now) }
@@ -157,7 +167,7 @@ impl StoredPairs {
 fn single(alloc: Global, name: String, value: String) -> Result<Box<PairsInOrder>, AllocError>
     ensures { IfOk result (λ held. attributes_of held.value ≡ (text_of name, text_of value) ∷ []) }
 {
-    let mut pairs = PairsInOrder::few(alloc);
+    let mut pairs = PairsInOrder::plain(alloc);
     pairs.push(name, value)?;
     let held = Box::new(alloc, pairs)?;
     Ok(held)

@@ -131,6 +131,40 @@ fn a_long_list_keeps_its_order(rt: HostRuntime) -> Result<(), AllocError> {
 }
 
 #[test]
+fn a_finished_list_needs_no_index(rt: HostRuntime) -> Result<(), AllocError> {
+    let alloc = rt.alloc();
+    let rows = [
+        ("no pair", 0u32),
+        ("pairs inside", 2),
+        ("pairs outside", 5),
+        ("the most without an index", 16),
+        ("the fewest with one", 17),
+        ("many", 1000),
+    ];
+    for (row, count) in rows {
+        let mut list = AttrList::new(alloc);
+        for at in 0..count {
+            list.push_if_new(format!(in alloc; "name{at}")?, String::new(alloc))?;
+        }
+        let indexed = text_of(alloc, &list)?;
+        list.drop_index();
+        assert_eq!(rt; text_of(alloc, &list)?.as_str(), indexed.as_str(), "{row}");
+        for mut again in [list.copy()?, list] {
+            again.set("last", "1")?;
+            assert!(rt; !again.push_if_new(String::from_str(alloc, "last")?, String::new(alloc))?);
+            assert_eq!(rt; again.get("last"), Some("1"), "{row}: a name behind");
+            assert!(rt; again.remove("last"), "{row}: the name is taken out");
+            assert_eq!(rt;
+                text_of(alloc, &again)?.as_str(),
+                indexed.as_str(),
+                "{row}: as before"
+            );
+        }
+    }
+    Ok(())
+}
+
+#[test]
 fn tokens_carry_their_texts(rt: HostRuntime) -> Result<(), AllocError> {
     let alloc = rt.alloc();
     let name = String::from_str(alloc, "img")?;

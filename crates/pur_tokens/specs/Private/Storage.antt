@@ -6,12 +6,12 @@ use Rattle.pur_tokens.specs.Attributes.{Attribute}
 use Rattle.pur_tokens.specs.Pairs.{attribute_of}
 use Rattle.pur_tokens.specs.declared.pairs_in_order.PairsInOrder.{PairsInOrder}
 use Rattle.pur_tokens.specs.declared.stored_pairs.StoredPairs.{StoredPairs}
-use Rattle.pur_tokens.specs.declared.pairs_in_order.PairsInOrder.TheVariants.{Few, Many}
+use Rattle.pur_tokens.specs.declared.pairs_in_order.PairsInOrder.TheVariants.{Plain, Indexed}
 
 -- all attributes, in order
 abbrev pub attributes_of : PairsInOrder → List Attribute
-attributes_of (Few few) = map attribute_of few.items
-attributes_of (Many many) = many
+attributes_of (Plain plain) = map attribute_of plain.items
+attributes_of (Indexed indexed) = indexed
 
 -- those behind a pointer, where there is one
 abbrev pub held_in : Option (Box PairsInOrder Global) → List Attribute

@@ -28,11 +28,12 @@ returns-in-Some-clause-end c =
     let skipped = c.cut_at.result.0.now in
     let tail = c.cut_at.result.1.now in
     let front = strip_prefix_char 62 tail (Some c.in-Some.behind) c.in-Some.ensures.cases (lit< tt) in
+    rw c.drop_index.ensures (
     tag_ended c.attributes.attrs c.attributes.rest.now (chars skipped) (chars tail) _ c.attributes.invariant.0
     (λ e. true≢false (sym (ap (λ n. n == 0) e) ∙ sym c.is_empty.ensures ∙ c.attributes-test.true))
     c.cut_at.ensures.run c.cut_at.ensures.rest c.attributes.invariant.2 c.ends_with.result (chars c.in-Some.behind.now)
     (chars_behind tail c.in-Some.behind.now 62 (lit< tt) front)
-    (slash_is skipped (chars c.attributes.rest.now) c.ends_with.result c.cut_at.ensures.text.0 c.cut_at.ensures.run (ends_char 47 skipped c.ends_with.result c.ends_with.ensures.cases (lit< tt)))
+    (slash_is skipped (chars c.attributes.rest.now) c.ends_with.result c.cut_at.ensures.text.0 c.cut_at.ensures.run (ends_char 47 skipped c.ends_with.result c.ends_with.ensures.cases (lit< tt))))
 
 pub returns-clause-end : goal.returns-clause-end
 returns-clause-end c =
