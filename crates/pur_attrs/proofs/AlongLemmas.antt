@@ -6,7 +6,7 @@ use Rattle.std.specs.declared.alloc.Global.{Global}
 use Rattle.std.proofs.lemmas.List.{map-append, length-map}
 use Rattle.std.proofs.Math.Seq.{take-append_seam, drop-append_seam}
 use Rattle.pur_settings.specs.Rules.{Rules}
-use Rattle.pur_tokens.specs.Attributes.{is_same_text}
+use Rattle.pur_tokens.specs.Attributes.{Attribute, is_same_text}
 use Rattle.pur_tokens.specs.Texts.{text_of}
 use Rattle.pur_tree.specs.Nodes.{PlainElem, Nodes, elem_first, plain_elem}
 use Rattle.pur_urigate.specs.HostRules.{PlainHostRule}
@@ -148,3 +148,18 @@ module _ (rules : Rules) (rule : PlainHostRule) (seen : Seen) (e : PlainElem) (k
       ap (seen_behind seen) (put-first rules rule e kids rest)
       ∙ seen-append seen own (ids_put rules rule kids ++ ids_put rules rule rest)
       ∙ seen-append seen_inside (ids_put rules rule kids) (ids_put rules rule rest)
+
+  -- an element that was changed where it stands, behind what was seen
+  module _ (made : List Attribute) (below : Nodes) (after : Seen) (last : (id : List ℕ) → after id ≡ seen_after id) where
+    pub valid-changed : made ≡ attributes_behind rules rule seen e.name e.attrs → below ≡ valid_behind rules rule seen_inside kids
+        → elem_first (plain_elem e.name made) below (valid_behind rules rule after rest) ≡ valid_behind rules rule seen (elem_first e kids rest)
+    valid-changed own_made all_below =
+        ap (λ attrs. elem_first (plain_elem e.name attrs) below (valid_behind rules rule after rest)) own_made
+        ∙ ap (λ nodes. elem_first (plain_elem e.name (attributes_behind rules rule seen e.name e.attrs)) nodes (valid_behind rules rule after rest)) all_below
+        ∙ ap (λ (s : Seen). elem_first (plain_elem e.name (attributes_behind rules rule seen e.name e.attrs)) (valid_behind rules rule seen_inside kids) (valid_behind rules rule s rest)) (λ i id. last id i)
+        ∙ sym valid-first
+
+    pub seen-changed : (id : List ℕ) → seen_behind after (ids_put rules rule rest) id ≡ seen_behind seen (ids_put rules rule (elem_first e kids rest)) id
+    seen-changed id =
+        ap (λ (s : Seen). seen_behind s (ids_put rules rule rest) id) (λ i id. last id i)
+        ∙ ap (λ (s : Seen). s id) (sym seen-first)

@@ -1,5 +1,5 @@
 -- What is known along the walk: the prefix is plain, and names stay distinct.
-use Rattle.std.proofs.Common.{◌≡◌, ℕ, true, ◌&&◌, List, [], ◌∷◌, length, refl, sym, ap, ◌∙◌, arith}
+use Rattle.std.proofs.Common.{◌≡◌, ℕ, true, ◌&&◌, List, [], ◌∷◌, length, Result, Ok, Err, OnOk, refl, arith}
 use Rattle.std.specs.Prelude.{nat_le}
 use Rattle.std.specs.List.{list_all}
 use Rattle.std.proofs.lemmas.Bool.{and_from, and_parts}
@@ -8,9 +8,8 @@ use Rattle.pur_laws.proofs.Lists.{all-weaker}
 use Rattle.pur_laws.proofs.Texts.{is_ascii}
 use Rattle.pur_settings.specs.Prefixes.{is_letter, is_id_byte, begins_an_id, is_id_prefix}
 use Rattle.pur_tokens.specs.Attributes.{is_distinct}
-use Rattle.pur_tree.specs.Nodes.{PlainElem, Nodes, no_nodes, text_first, elem_first, nodes_append}
+use Rattle.pur_tree.specs.Nodes.{Nodes, no_nodes, text_first, elem_first, nodes_append}
 use Rattle.pur_tree.specs.Spelling.{has_distinct_names}
-use Rattle.pur_tree.proofs.NodesLemmas.{nodes_append-none}
 
 letter-plain : (b : ℕ) → is_letter b ≡ true → is_ascii b ≡ true
 letter-plain b is = grind (arith, nat_tests)
@@ -27,7 +26,7 @@ prefix-plain prefix is = go prefix (and_parts (nat_le (length prefix) 64) (begin
         let parts = and_parts (is_letter first) (list_all is_id_byte behind) is in
         and_from _ _ (letter-plain first parts.0) (all-weaker is_id_byte is_ascii id_byte-plain behind parts.1)
 
-distinct-append : (f g : Nodes) → has_distinct_names f ≡ true → has_distinct_names g ≡ true → has_distinct_names (nodes_append f g) ≡ true
+pub distinct-append : (f g : Nodes) → has_distinct_names f ≡ true → has_distinct_names g ≡ true → has_distinct_names (nodes_append f g) ≡ true
 distinct-append no_nodes g one two = two
 distinct-append (text_first s f) g one two = distinct-append f g one two
 distinct-append (elem_first e kids f) g one two =
@@ -35,15 +34,7 @@ distinct-append (elem_first e kids f) g one two =
     let below = and_parts (has_distinct_names kids) (has_distinct_names f) here.1 in
     and_from _ _ here.0 (and_from _ _ below.0 (distinct-append f g below.1 two))
 
--- with a text behind, and with an element
-module _ (old new : Nodes) where
-  pub text-distinct : (s : List ℕ) → ((more : Nodes) → nodes_append new more ≡ nodes_append old (text_first s more))
-      → has_distinct_names old ≡ true → has_distinct_names new ≡ true
-  text-distinct s put apart =
-      ap has_distinct_names (sym (nodes_append-none new) ∙ put no_nodes) ∙ distinct-append old (text_first s no_nodes) apart refl
-
-  pub elem-distinct : (e : PlainElem) (kids : Nodes) → ((more : Nodes) → nodes_append new more ≡ nodes_append old (elem_first e kids more))
-      → has_distinct_names old ≡ true → is_distinct e.attrs ≡ true → has_distinct_names kids ≡ true → has_distinct_names new ≡ true
-  elem-distinct e kids put apart own below =
-      ap has_distinct_names (sym (nodes_append-none new) ∙ put no_nodes)
-      ∙ distinct-append old (elem_first e kids no_nodes) apart (and_from _ _ own (and_from _ _ below refl))
+-- what follows from three facts of what succeeds
+pub on_ok_three : {T E P Q R S : Type 0} (r : Result T E) → (P → Q → R → S) → OnOk r P → OnOk r Q → OnOk r R → OnOk r S
+on_ok_three (Ok x) gives one two three = gives one two three
+on_ok_three (Err e) gives one two three = one

@@ -1,8 +1,8 @@
 //! The attributes of all elements, in document order.
 
 ghost use Rattle.std.specs.Prelude.{◌≡◌, ℕ, List, true, IfOk, OnOk, OnErr};
-ghost use Rattle.pur_tree.specs.Image.{nodes_of};
-ghost use Rattle.pur_tree.specs.Nodes.{no_nodes};
+ghost use Rattle.pur_tree.specs.Image.{nodes_of, node_before};
+ghost use Rattle.pur_tree.specs.Nodes.{Nodes, no_nodes};
 ghost use Rattle.pur_tree.specs.Spelling.{has_distinct_names};
 ghost use Rattle.pur_tokens.specs.Attributes.{is_distinct};
 ghost use Rattle.pur_attrs.specs.Attributes.{with_valid_attributes};
@@ -16,10 +16,11 @@ use crate::laws::keeps_forests;
 use pur_names::Element;
 use pur_settings::Settings;
 use pur_tokens::AttrList;
-use pur_tree::{Elem, Forest, Node, push_elem, push_text_node};
+use pur_tree::{Elem, Forest, Node};
 use pur_urigate::{UriGate, UriTest};
 use std::alloc::{AllocError, Global};
 use std::collections::BTreeSet;
+use std::mem;
 
 /// Goes through the attributes of all elements, in document order. The `name` of an `a` or an `img` becomes its `id`, and in
 /// Strict a style stands for some attributes. Each attribute stays that the doctype declares, the settings permit and whose value
@@ -27,7 +28,7 @@ use std::collections::BTreeSet;
 /// `lang` and `xml:lang` tell it; a `bdo` without a direction goes from left to right, and an `img` without a text in its place has
 /// the name of its source. The settings and the gate decide about each URI.
 ///
-/// Each list of attributes is gone through a fixed number of times, and made anew once.
+/// Nodes are changed where they stand. Each list of attributes is gone through a fixed number of times, and made anew once.
 ///
 /// The error is want of memory, and the forest is then empty.
 ///
@@ -44,47 +45,76 @@ pub fn validate<F: UriTest>(
 {
     keeps_forests();
     let mut seen = BTreeSet::new(alloc);
-    let nodes = valid_nodes(alloc, settings, gate, &mut seen, forest.take_nodes())?;
+    let mut nodes = forest.take_nodes();
+    change_nodes(alloc, settings, gate, &mut seen, &mut nodes)?;
     forest.put_nodes(nodes);
     Ok(())
 }
 
-// What becomes of nodes, where ids were seen before them.
-fn valid_nodes<F: UriTest>(
+// Nodes changed where they stand, where ids were seen before them.
+#[cycle(change)]
+fn change_nodes<F: UriTest>(
     alloc: Global,
     settings: &Settings,
     gate: &UriGate<F>,
     seen: &mut BTreeSet<String>,
-    nodes: Vec<Node>,
-) -> Result<Vec<Node>, AllocError>
-    ensures nodes { IfOk result (λ out. nodes_of out.items ≡ valid_behind settings.now gate.now (seen_in seen.old) (nodes_of nodes.items)) }
-    ensures seen { OnOk result ((id : List ℕ) → seen_in seen.new id ≡ seen_behind (seen_in seen.old) (ids_put settings.now gate.now (nodes_of nodes.items)) id) }
-    ensures distinct { IfOk result (λ out. has_distinct_names (nodes_of out.items) ≡ true) }
+    nodes: &mut Vec<Node>,
+) -> Result<(), AllocError>
+    ensures nodes { OnOk result (nodes_of nodes.new.items ≡ valid_behind settings.now gate.now (seen_in seen.old) (nodes_of nodes.old.items)) }
+    ensures seen { OnOk result ((id : List ℕ) → seen_in seen.new id ≡ seen_behind (seen_in seen.old) (ids_put settings.now gate.now (nodes_of nodes.old.items)) id) }
+    ensures distinct { OnOk result (has_distinct_names (nodes_of nodes.new.items) ≡ true) }
 {
-    let mut out = Vec::with_capacity(alloc, nodes.len())?;
-    for node in nodes {
-        match node {
-            Node::Text(text) => push_text_node(&mut out, text)?,
-            Node::Elem(elem) => {
-                let Elem {
-                    name,
-                    attrs,
-                    children,
-                } = elem;
-                let attrs = valid_attributes(alloc, settings, gate, seen, name, attrs)?;
-                let children = valid_nodes(alloc, settings, gate, seen, children)?;
-                push_elem(
-                    &mut out,
-                    Elem {
-                        name,
-                        attrs,
-                        children,
-                    },
-                )?;
-            }
-        }
+    for at in 0..nodes.len() {
+        change_node(alloc, settings, gate, seen, &mut nodes[at])?;
     }
-    Ok(out)
+    Ok(())
+}
+
+// A node changed where it stands, whatever stands behind it.
+#[cycle(change)]
+fn change_node<F: UriTest>(
+    alloc: Global,
+    settings: &Settings,
+    gate: &UriGate<F>,
+    seen: &mut BTreeSet<String>,
+    node: &mut Node,
+) -> Result<(), AllocError>
+    ensures node { OnOk result ((rest : Nodes) → node_before node.new (valid_behind settings.now gate.now (seen_in seen.new) rest)
+        ≡ valid_behind settings.now gate.now (seen_in seen.old) (node_before node.old rest)) }
+    ensures seen { OnOk result ((rest : Nodes) (id : List ℕ) → seen_behind (seen_in seen.new) (ids_put settings.now gate.now rest) id
+        ≡ seen_behind (seen_in seen.old) (ids_put settings.now gate.now (node_before node.old rest)) id) }
+    ensures distinct { OnOk result ((rest : Nodes) → has_distinct_names rest ≡ true → has_distinct_names (node_before node.new rest) ≡ true) }
+{
+    match node {
+        Node::Text(_) => Ok(()),
+        Node::Elem(elem) => change_elem(alloc, settings, gate, seen, elem),
+    }
+}
+
+// An element changed where it stands.
+#[cycle(change)]
+fn change_elem<F: UriTest>(
+    alloc: Global,
+    settings: &Settings,
+    gate: &UriGate<F>,
+    seen: &mut BTreeSet<String>,
+    elem: &mut Elem,
+) -> Result<(), AllocError>
+    ensures name { elem.new.name ≡ elem.old.name }
+    ensures attrs { OnOk result (elem.new.attrs ≡ attributes_behind settings.now gate.now (seen_in seen.old) elem.old.name elem.old.attrs) }
+    ensures children { OnOk result (nodes_of elem.new.children.items
+        ≡ valid_behind settings.now gate.now
+        (seen_behind (seen_in seen.old) (prefixed_ids settings.now.id_prefix (kept_attributes settings.now gate.now elem.old.name elem.old.attrs)))
+        (nodes_of elem.old.children.items)) }
+    ensures seen { OnOk result ((id : List ℕ) → seen_in seen.new id
+        ≡ seen_behind
+        (seen_behind (seen_in seen.old) (prefixed_ids settings.now.id_prefix (kept_attributes settings.now gate.now elem.old.name elem.old.attrs)))
+        (ids_put settings.now gate.now (nodes_of elem.old.children.items)) id) }
+    ensures distinct { OnOk result ((is_distinct elem.new.attrs ≡ true) × (has_distinct_names (nodes_of elem.new.children.items) ≡ true)) }
+{
+    let attrs = mem::replace(&mut elem.attrs, AttrList::new(alloc));
+    elem.attrs = valid_attributes(alloc, settings, gate, seen, elem.name, attrs)?;
+    change_nodes(alloc, settings, gate, seen, &mut elem.children)
 }
 
 // What becomes of an element's attributes, where ids were seen before.
