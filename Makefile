@@ -1,7 +1,7 @@
 # make          builds the program, build/purify
 # make example  builds it and runs it on an example
 # make test     all that a change must pass
-# make install  puts the program into $(PREFIX)/bin
+# make install  puts the program into $(PREFIX)/bin, and its page into $(PREFIX)/share/man/man1
 RT ?= rt
 PREFIX ?= /usr/local
 
@@ -21,3 +21,4 @@ test:
 
 install: build/purify
 	install -D -m 755 build/purify $(DESTDIR)$(PREFIX)/bin/purify
+	install -D -m 644 man/purify.1 $(DESTDIR)$(PREFIX)/share/man/man1/purify.1

@@ -1,7 +1,9 @@
 pub mod Limits
 pub mod Words
 pub mod Choices
-pub mod Answers
 pub mod Statuses
 pub mod Writing
+pub mod Verdicts
+pub mod Answers
+pub mod Laws
 pub mod Private

@@ -1,43 +1,71 @@
--- The command that the words of the command line name: `[--settings FILE] [INPUT]`.
-use Rattle.std.specs.Prelude.{ℕ, ◌==◌, Bool, false, not, List, [], ◌∷◌, Option, Some, None, option_map, if◌then◌else◌, codes, string_bytes}
+-- The command that the words of the command line name: `[--settings FILE] [--check] [INPUT]`, as `clap` reads them.
+use Rattle.std.specs.Prelude.{ℕ, true, List, [], ◌∷◌, Option, Some, None, option_map, if◌then◌else◌, codes, String, string_bytes, IfSome, ◌≡◌}
 use Rattle.std.specs.Str.{bytes_eq}
+use Rattle.clap.specs.Words.{App, Rule, Row, Kinds, new_app, new_rule, with_rule, matches_of, fault_of, first_of}
+use Rattle.clap.specs.declared.builder.action.ArgAction.TheVariants.{Set, SetTrue}
+use Rattle.std.specs.declared.alloc.Global.{Global}
 use Rattle.pur_io.specs.Texts.{Name}
-use Rattle.pur_cli.specs.declared.words.Command.{Command}
-use Rattle.pur_cli.specs.declared.words.Command.TheVariants.{Filter}
+use Rattle.pur_cli.specs.declared.command.Command.{Command}
+use Rattle.pur_cli.specs.declared.command.Command.TheVariants.{Filter, Check}
+use Rattle.pur_cli.specs.declared.command.Work.{Work}
+use Rattle.pur_cli.specs.declared.command.Work.TheVariants as work
 
--- a command: the file of its settings, where it names one, and its input
+-- a command: what it does with its input, the file of its settings, where it names one, and its input
 pub record PlainCommand : Type 0 where
+  pub work : Work
   pub settings : Option (List ℕ)
   pub input : Name
 
 -- a command as its caller sees it
+abbrev pub plain_parts : Work → Option (String Global) → Option (String Global) → PlainCommand
+plain_parts w settings input = record { work = w; settings = option_map string_bytes settings; input = option_map string_bytes input }
+
 abbrev pub plain_command : Command → PlainCommand
-plain_command (Filter settings input) =
-    record { settings = option_map string_bytes settings; input = option_map string_bytes input }
+plain_command (Filter settings input) = plain_parts work.Filter settings input
+plain_command (Check settings input) = plain_parts work.Check settings input
 
--- the character that begins an option
-abbrev pub hyphen : ℕ
-hyphen = 45
+-- the option `--settings` with one value, the flag `--check`, and one word more
+abbrev pub settings_rule : Rule
+settings_rule = record (new_rule (codes "settings")) { long = Some (codes "settings"); action = Some Set }
 
--- whether a word is a file: it isn't empty and doesn't begin with `-`
-abbrev pub is_file_word : List ℕ → Bool
-is_file_word [] = false
-is_file_word (c ∷ word) = not (c == hyphen)
+abbrev pub check_rule : Rule
+check_rule = record (new_rule (codes "check")) { long = Some (codes "check"); action = Some SetTrue }
 
--- the command with these settings, where the rest of the words is a file or nothing
-abbrev pub with_input : Option (List ℕ) → List (List ℕ) → Option PlainCommand
-with_input settings [] = Some (record { settings = settings; input = None })
-with_input settings (file ∷ []) =
-    if is_file_word file then Some (record { settings = settings; input = Some file }) else None
-with_input settings (file ∷ word ∷ words) = None
+abbrev pub input_rule : Rule
+input_rule = record (new_rule (codes "input")) { action = Some Set }
 
--- the command of the words behind `--settings`
-abbrev pub with_settings : List (List ℕ) → Option PlainCommand
-with_settings [] = None
-with_settings (file ∷ words) = if is_file_word file then with_input (Some file) words else None
+-- the program before it has arguments, without flags for help and version
+abbrev pub bare_app : App
+bare_app = let app = new_app (codes "purify") in
+    record app { top = record app.top { disable_help_flag = true; disable_version_flag = true } }
 
--- the command that the words name, if they name one
+-- the command line as `clap` is told it
+abbrev pub purify_app : App
+purify_app = with_rule (with_rule (with_rule bare_app settings_rule) check_rule) input_rule
+
+-- the work that the flag's value names: `clap` gives a flag that stands among the words the value `true`
+abbrev pub work_named : Option (List ℕ) → Work
+work_named None = work.Filter
+work_named (Some value) = if bytes_eq value (codes "true") then work.Check else work.Filter
+
+-- the command that matches name
+abbrev pub command_in : List Row → PlainCommand
+command_in rows = record {
+  work = work_named (first_of (codes "check") rows);
+  settings = first_of (codes "settings") rows;
+  input = first_of (codes "input") rows;
+}
+
+-- something, where there is no fault
+abbrev pub unless_faulty : {X : Type 0} → Kinds → X → Option X
+unless_faulty [] x = Some x
+unless_faulty (kind ∷ kinds) x = None
+
+-- the command that the words name, if they name one: `clap` is handed the program's name in front of them
 abbrev pub command_of : List (List ℕ) → Option PlainCommand
-command_of [] = with_input None []
-command_of (word ∷ words) =
-    if bytes_eq word (codes "--settings") then with_settings words else with_input None (word ∷ words)
+command_of words = let all = codes "purify" ∷ words in
+    unless_faulty (fault_of purify_app all) (command_in (matches_of purify_app all))
+
+-- what holds of the command, where there is one and it filters
+abbrev pub IfFilter : Option PlainCommand → (PlainCommand → Type 0) → Type 0
+IfFilter command P = IfSome command (λ c. c.work ≡ work.Filter → P c)

@@ -1,8 +1,11 @@
-//! The program as one call over the world outside: it reads the words of its command line, the settings and the
-//! input, purifies the input, and writes the fragment. `specs/` says which command the words name, which status a run
-//! ends with, and what each status tells.
+//! The program as one call over the world outside: it reads the words of its command line, the settings and the input, and
+//! then filters the input and writes the fragment, or checks whether it is one and writes that. `specs/` says which command
+//! the words name, which status a run ends with, and what each status tells.
 #![tactic(auto)]
 
+mod checking;
+mod command;
+mod laws;
 mod output;
 mod program;
 mod purifying;
@@ -13,6 +16,8 @@ mod tests;
 mod texts;
 mod words;
 
+pub use command::Command;
+pub use laws::verdicts_exclude;
 pub use program::run;
 pub use status::Status;
-pub use words::{Command, read_words};
+pub use words::read_words;

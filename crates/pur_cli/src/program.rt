@@ -1,5 +1,5 @@
 // The program as one call over the world outside.
-ghost use Rattle.std.specs.Prelude.{◌≡◌, ◌≢◌, ◌⊎◌, ◌+◌, ◌≤◌, map, Some, None, string_bytes, IfSome};
+ghost use Rattle.std.specs.Prelude.{◌≡◌, ◌≢◌, ◌⊎◌, ◌+◌, ◌≤◌, map, Some, None, option_map, string_bytes, IfSome};
 ghost use Rattle.pur_io.specs.Faults.{Rose};
 ghost use Rattle.pur_io.specs.Taken.{taken_more};
 ghost use Rattle.pur_io.specs.Texts.{plain_name, text_named};
@@ -8,20 +8,21 @@ ghost use Rattle.pur_reader.specs.Goodness.{IsGood};
 ghost use Rattle.pur_engine.specs.Ledger.{AddsNoText};
 ghost use Rattle.pur_engine.specs.Purified.{purified};
 ghost use Rattle.pur_engine.specs.Spelled.{IsSpelled};
-ghost use Rattle.pur_cli.specs.Answers.{settings_named, answer_under, answer_to, answer_of};
+ghost use Rattle.pur_cli.specs.Answers.{refused, IsStatus, HasStatus, text_of, TookFrontOf, settings_named, answer_under, answer_to, answer_of};
 ghost use Rattle.pur_cli.specs.Choices.{ChoseSettings, ChoseInput};
 ghost use Rattle.pur_cli.specs.Limits.{settings_limit, input_limit};
 ghost use Rattle.pur_cli.specs.Private.Ends.{Ends};
 ghost use Rattle.pur_cli.specs.Statuses.{code_of, TookLine, TookWholeLine};
-ghost use Rattle.pur_cli.specs.Words.{plain_command, command_of};
-ghost use Rattle.pur_cli.specs.Writing.{TookFront};
+ghost use Rattle.pur_cli.specs.Words.{plain_parts, command_of, IfFilter};
 
+use crate::checking::check_under;
+use crate::command::{Command, Work};
 use crate::output::{complain, write_all};
 use crate::purifying::purified_text;
 use crate::settings::{NoSettings, read_settings};
 use crate::status::Status;
 use crate::texts::{INPUT_LIMIT, ReadFault, read_text};
-use crate::words::{Command, read_words};
+use crate::words::read_words;
 use pur_io::{Failed, Shelf, Sink};
 use pur_settings::Settings;
 use std::alloc::Global;
@@ -31,7 +32,8 @@ use std::alloc::Global;
 /// The words are read first (`read_words`). Then the settings text is read from the shelf, where the words name one, and
 /// refused where it has more than 65,536 bytes or an offence; without one the settings are the defaults. Then the input is
 /// read, and refused where it has more than 1,048,576 bytes. Of each text one byte past its limit is asked for, to tell that
-/// it has one. The input's purification under the settings and the rule of hosts that they give is written to `out`. The answer
+/// it has one. A command that filters writes the input's purification under the settings and the rule of hosts that they give to
+/// `out`; one that checks writes whether the input is a good fragment under them, and calls no pass of the filter. The answer
 /// is the status that the program ends with (`Status`), and its line is written to `err`; a fault of `err` changes no status. The
 /// whole text is computed before the first write to `out`, and from there on no memory is taken.
 ///
@@ -51,44 +53,53 @@ pub fn run<H: Shelf, O: Sink, E: Sink>(
         (result ≡ code_of Status.OutOfMemory) ⊎ (result ≡ code_of Status.BadCommandLine) }
     ensures answered { ¬ Rose (H.faults shelf.old) (H.faults shelf.new) → ¬ Rose (O.faults out.old) (O.faults out.new) →
         IfSome (H.texts shelf.old) (λ texts. (result ≡ code_of Status.OutOfMemory)
-        ⊎ (result ≡ code_of (answer_of (map string_bytes words.now) texts).status)) }
+        ⊎ HasStatus (answer_of (map string_bytes words.now) texts) result) }
     ensures refused { ¬ Rose (H.faults shelf.old) (H.faults shelf.new) → IfSome (H.texts shelf.old) (λ texts.
-        (answer_of (map string_bytes words.now) texts).status ≢ Status.Done → (result ≡ code_of Status.OutOfMemory)
-        ⊎ (result ≡ code_of (answer_of (map string_bytes words.now) texts).status)) }
+        (s : Status) → answer_of (map string_bytes words.now) texts ≡ refused s →
+        (result ≡ code_of Status.OutOfMemory) ⊎ (result ≡ code_of s)) }
 
     // What each status says of the words and the texts.
     ensures done { result ≡ code_of Status.Done → IfSome (H.texts shelf.old) (λ texts.
-        (answer_of (map string_bytes words.now) texts).status ≡ Status.Done) }
-    ensures not_written { result ≡ code_of Status.CannotWrite → IfSome (H.texts shelf.old) (λ texts.
-        (answer_of (map string_bytes words.now) texts).status ≡ Status.Done) }
+        IsStatus (answer_of (map string_bytes words.now) texts) Status.Done) }
+    ensures spelling_fault { result ≡ code_of Status.SpellingFault → IfSome (H.texts shelf.old) (λ texts.
+        IsStatus (answer_of (map string_bytes words.now) texts) Status.SpellingFault) }
+    ensures validity_fault { result ≡ code_of Status.ValidityFault → IfSome (H.texts shelf.old) (λ texts.
+        IsStatus (answer_of (map string_bytes words.now) texts) Status.ValidityFault) }
     ensures settings_refused { result ≡ code_of Status.SettingsRefused → IfSome (H.texts shelf.old) (λ texts.
-        (answer_of (map string_bytes words.now) texts).status ≡ Status.SettingsRefused) }
+        answer_of (map string_bytes words.now) texts ≡ refused Status.SettingsRefused) }
     ensures too_long { result ≡ code_of Status.InputTooLong → IfSome (H.texts shelf.old) (λ texts.
-        (answer_of (map string_bytes words.now) texts).status ≡ Status.InputTooLong) }
+        answer_of (map string_bytes words.now) texts ≡ refused Status.InputTooLong) }
 
     // What was written.
     ensures written { result ≡ code_of Status.Done → IfSome (H.texts shelf.old) (λ texts.
-        O.taken out.new ≡ taken_more (O.taken out.old) (answer_of (map string_bytes words.now) texts).text) }
-    ensures spelled { result ≡ code_of Status.Done → IfSome (H.texts shelf.old) (λ texts.
-        IsSpelled (answer_of (map string_bytes words.now) texts).text) }
-    ensures good { result ≡ code_of Status.Done → IfSome (H.texts shelf.old) (λ texts.
-        IfSome (command_of (map string_bytes words.now)) (λ command. IfSome (settings_named texts command.settings) (λ rules.
-        IsGood rules (rule_of rules) (answer_of (map string_bytes words.now) texts).text))) }
-    ensures adds_no_text { result ≡ code_of Status.Done → IfSome (H.texts shelf.old) (λ texts.
-        IfSome (command_of (map string_bytes words.now)) (λ command.
-        AddsNoText (text_named texts command.input) (answer_of (map string_bytes words.now) texts).text)) }
-    ensures unchanged { result ≡ code_of Status.Done → IfSome (H.texts shelf.old) (λ texts.
-        IfSome (command_of (map string_bytes words.now)) (λ command. IfSome (settings_named texts command.settings) (λ rules.
-        IsGood rules (rule_of rules) (text_named texts command.input) →
-        (answer_of (map string_bytes words.now) texts).text ≡ text_named texts command.input))) }
-    ensures twice { result ≡ code_of Status.Done → IfSome (H.texts shelf.old) (λ texts.
-        IfSome (command_of (map string_bytes words.now)) (λ command. IfSome (settings_named texts command.settings) (λ rules.
-        purified rules (rule_of rules) (answer_of (map string_bytes words.now) texts).text
-        ≡ (answer_of (map string_bytes words.now) texts).text))) }
-    ensures nothing { result ≢ code_of Status.Done → result ≢ code_of Status.CannotWrite →
-        O.taken out.new ≡ O.taken out.old }
+        O.taken out.new ≡ taken_more (O.taken out.old) (text_of (answer_of (map string_bytes words.now) texts) Status.Done)) }
+    ensures written_spelling { result ≡ code_of Status.SpellingFault → IfSome (H.texts shelf.old) (λ texts.
+        O.taken out.new ≡ taken_more (O.taken out.old) (text_of (answer_of (map string_bytes words.now) texts) Status.SpellingFault)) }
+    ensures written_validity { result ≡ code_of Status.ValidityFault → IfSome (H.texts shelf.old) (λ texts.
+        O.taken out.new ≡ taken_more (O.taken out.old) (text_of (answer_of (map string_bytes words.now) texts) Status.ValidityFault)) }
+    ensures nothing { result ≢ code_of Status.Done → result ≢ code_of Status.SpellingFault →
+        result ≢ code_of Status.ValidityFault → result ≢ code_of Status.CannotWrite → O.taken out.new ≡ O.taken out.old }
     ensures front { result ≡ code_of Status.CannotWrite → IfSome (H.texts shelf.old) (λ texts.
-        TookFront (O.taken out.old) (O.taken out.new) (answer_of (map string_bytes words.now) texts).text) }
+        TookFrontOf (answer_of (map string_bytes words.now) texts) (O.taken out.old) (O.taken out.new)) }
+
+    // What a purification is.
+    ensures spelled { result ≡ code_of Status.Done → IfSome (H.texts shelf.old) (λ texts.
+        IfFilter (command_of (map string_bytes words.now)) (λ _.
+        IsSpelled (text_of (answer_of (map string_bytes words.now) texts) Status.Done))) }
+    ensures good { result ≡ code_of Status.Done → IfSome (H.texts shelf.old) (λ texts.
+        IfFilter (command_of (map string_bytes words.now)) (λ command. IfSome (settings_named texts command.settings) (λ rules.
+        IsGood rules (rule_of rules) (text_of (answer_of (map string_bytes words.now) texts) Status.Done)))) }
+    ensures adds_no_text { result ≡ code_of Status.Done → IfSome (H.texts shelf.old) (λ texts.
+        IfFilter (command_of (map string_bytes words.now)) (λ command.
+        AddsNoText (text_named texts command.input) (text_of (answer_of (map string_bytes words.now) texts) Status.Done))) }
+    ensures unchanged { result ≡ code_of Status.Done → IfSome (H.texts shelf.old) (λ texts.
+        IfFilter (command_of (map string_bytes words.now)) (λ command. IfSome (settings_named texts command.settings) (λ rules.
+        IsGood rules (rule_of rules) (text_named texts command.input) →
+        text_of (answer_of (map string_bytes words.now) texts) Status.Done ≡ text_named texts command.input))) }
+    ensures twice { result ≡ code_of Status.Done → IfSome (H.texts shelf.old) (λ texts.
+        IfFilter (command_of (map string_bytes words.now)) (λ command. IfSome (settings_named texts command.settings) (λ rules.
+        purified rules (rule_of rules) (text_of (answer_of (map string_bytes words.now) texts) Status.Done)
+        ≡ text_of (answer_of (map string_bytes words.now) texts) Status.Done))) }
 
     // The causes of the faults outside.
     ensures unwritten { result ≡ code_of Status.CannotWrite → Rose (O.faults out.old) (O.faults out.new) }
@@ -99,7 +110,7 @@ pub fn run<H: Shelf, O: Sink, E: Sink>(
         ⊎ ChoseInput (command_of (map string_bytes words.now)) (H.chosen shelf.new) }
     ensures unread_refused { result ≡ code_of Status.CannotRead → IfSome (H.texts shelf.old) (λ texts.
         ChoseSettings (command_of (map string_bytes words.now)) (H.chosen shelf.new)
-        ⊎ ((answer_of (map string_bytes words.now) texts).status ≢ Status.SettingsRefused)) }
+        ⊎ (answer_of (map string_bytes words.now) texts ≢ refused Status.SettingsRefused)) }
     ensures kept { result ≢ code_of Status.OutOfMemory → result ≢ code_of Status.CannotRead →
         H.faults shelf.new ≡ H.faults shelf.old }
 
@@ -115,7 +126,22 @@ pub fn run<H: Shelf, O: Sink, E: Sink>(
     ensures whole_line { Rose (E.faults err.old) (E.faults err.new) ⊎ TookWholeLine (E.taken err.old) (E.taken err.new) result }
 {
     let status = match read_words(alloc, words) {
-        Ok(Some(command)) => filter(alloc, command, shelf, out),
+        Ok(Some(Command::Filter { settings, input })) => obey(
+            alloc,
+            Work::Filter,
+            settings,
+            input,
+            shelf,
+            out,
+        ),
+        Ok(Some(Command::Check { settings, input })) => obey(
+            alloc,
+            Work::Check,
+            settings,
+            input,
+            shelf,
+            out,
+        ),
         Ok(None) => Status::BadCommandLine,
         Err(_) => Status::OutOfMemory,
     };
@@ -123,21 +149,47 @@ pub fn run<H: Shelf, O: Sink, E: Sink>(
     status.code()
 }
 
-// Filters the input that the command names under its settings.
-fn filter<H: Shelf, O: Sink>(alloc: Global, command: Command, shelf: &mut H, out: &mut O) -> Status
-    ensures { Ends H.Shelf O.Sink (plain_command command) (λ texts. settings_named texts (plain_command command).settings)
-        (answer_to (plain_command command)) shelf.old shelf.new out.old out.new result }
+// Does the work of a command on the input that it names, under its settings.
+fn obey<H: Shelf, O: Sink>(
+    alloc: Global,
+    work: Work,
+    settings: Option<String>,
+    input: Option<String>,
+    shelf: &mut H,
+    out: &mut O,
+) -> Status
+    ensures { Ends H.Shelf O.Sink (plain_parts work settings input) (λ texts. settings_named texts (option_map string_bytes settings))
+        (answer_to (plain_parts work settings input)) shelf.old shelf.new out.old out.new result }
 {
-    let Command::Filter { settings, input } = command;
     let settings = match read_settings(alloc, shelf, settings) {
         Ok(settings) => settings,
         Err(NoSettings::Unread) => return Status::CannotRead,
         Err(NoSettings::Refused) => return Status::SettingsRefused,
         Err(NoSettings::Memory) => return Status::OutOfMemory,
     };
-    let status = filter_under(alloc, &settings, input, shelf, out);
+    let status = work_under(alloc, work, &settings, input, shelf, out);
     drop(settings);
     status
+}
+
+// Does a work on the input of this name under the settings.
+fn work_under<H: Shelf, O: Sink>(
+    alloc: Global,
+    work: Work,
+    settings: &Settings,
+    name: Option<String>,
+    shelf: &mut H,
+    out: &mut O,
+) -> Status
+    ensures settings { result ≢ Status.SettingsRefused }
+    ensures chosen { H.chosen shelf.new ≡ Some (plain_name name) }
+    ensures ends { Ends H.Shelf O.Sink (record { work = work; settings = None; input = plain_name name }) (λ texts. Some settings.now)
+        (λ texts. answer_under work settings.now (text_named texts (plain_name name))) shelf.old shelf.new out.old out.new result }
+{
+    match work {
+        Work::Filter => filter_under(alloc, settings, name, shelf, out),
+        Work::Check => check_under(alloc, settings, name, shelf, out),
+    }
 }
 
 // Filters the input of this name under the settings; nothing is written before all is computed.
@@ -150,8 +202,8 @@ fn filter_under<H: Shelf, O: Sink>(
 ) -> Status
     ensures settings { result ≢ Status.SettingsRefused }
     ensures chosen { H.chosen shelf.new ≡ Some (plain_name name) }
-    ensures ends { Ends H.Shelf O.Sink (record { settings = None; input = plain_name name }) (λ texts. Some settings.now)
-        (λ texts. answer_under settings.now (text_named texts (plain_name name))) shelf.old shelf.new out.old out.new result }
+    ensures ends { Ends H.Shelf O.Sink (record { work = Work.Filter; settings = None; input = plain_name name }) (λ texts. Some settings.now)
+        (λ texts. answer_under Work.Filter settings.now (text_named texts (plain_name name))) shelf.old shelf.new out.old out.new result }
 {
     let input = match read_text(alloc, shelf, name, INPUT_LIMIT) {
         Ok(input) => input,

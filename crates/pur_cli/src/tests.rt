@@ -1,5 +1,5 @@
-//! Tests of the top call over streams in memory: its statuses, its lines, and faults of the streams. What becomes of an input
-//! is tested in pur_engine.
+//! Tests of the top call over streams in memory: its words, its statuses, its lines, checks, and faults of the streams. What becomes
+//! of an input is tested in pur_engine, and what is valid in pur_reader.
 
 ghost use Rattle.std.specs.Prelude.{◌≡◌, ◌≢◌, IfOk};
 ghost use Rattle.pur_io.specs.Texts.{plain_texts, HasDistinctNames};
@@ -8,9 +8,10 @@ ghost use Rattle.pur_cli.specs.Statuses.{code_of};
 mod noting;
 
 use self::noting::{NotingShelf, NotingSink};
+use crate::command::Command;
 use crate::program::run;
 use crate::status::Status;
-use crate::words::{Command, read_words};
+use crate::words::read_words;
 use pur_io::{MemShelf, MemSink, Shelf, SureShelf, SureSink};
 use std::alloc::{AllocError, Global};
 use std::test::Fail;
@@ -76,7 +77,7 @@ fn purifies_under_the_settings_that_are_named(rt: HostRuntime) -> Result<(), Fai
             "a_file_of_settings",
             Some("--settings rules"),
             b"<center>a",
-            b"<div>a</div>",
+            b"<div style=\"text-align:center;\">a</div>",
         ),
     ];
     for (name, line, input, out) in rows {
@@ -173,14 +174,27 @@ fn missing_texts_are_not_read(rt: HostRuntime) -> Result<(), Fail> {
 fn words_name_no_command(rt: HostRuntime) -> Result<(), Fail> {
     let rows = [
         ("two_inputs", "rules rules"),
+        ("two_inputs_with_an_option_between", "rules --check rules"),
         ("no_settings_named", "--settings"),
+        ("settings_twice", "--settings rules --settings rules"),
+        (
+            "settings_twice_in_both_forms",
+            "--settings=rules --settings rules",
+        ),
         ("two_inputs_under_settings", "--settings rules rules rules"),
-        ("settings_behind_the_input", "rules --settings rules"),
         ("an_unknown_option", "--nope"),
+        ("a_front_of_an_option", "--set rules"),
+        ("an_option_in_upper_case", "--Check"),
         ("an_option_as_settings", "--settings -x"),
-        ("a_hyphen", "-"),
-        ("an_empty_word", ""),
-        ("an_empty_word_as_settings", "--settings "),
+        ("the_check_as_settings", "--settings --check"),
+        ("a_short_option", "-c"),
+        ("the_check_twice", "--check --check"),
+        ("a_check_with_a_value", "--check=yes"),
+        ("help", "--help"),
+        ("help_in_short", "-h"),
+        ("the_version", "--version"),
+        ("two_inputs_behind_the_end_of_options", "-- rules rules"),
+        ("an_empty_word_and_an_input", " rules"),
     ];
     for (name, line) in rows {
         let ending = run_over(rt.alloc(), Some(line), b"", b"Hello", ROOM)?;
@@ -194,25 +208,253 @@ fn words_name_no_command(rt: HostRuntime) -> Result<(), Fail> {
 
 #[test]
 fn words_name_files(rt: HostRuntime) -> Result<(), Fail> {
-    let rows: [(Option<&str>, Option<&str>, Option<&str>); 5] = [
-        (None, None, None),
-        (Some("a"), None, Some("a")),
-        (Some("--settings a"), Some("a"), None),
-        (Some("--settings a b"), Some("a"), Some("b")),
-        (Some("--settings a-b x"), Some("a-b"), Some("x")),
+    // the words, whether they ask for a check, the settings and the input
+    let rows: [(Option<&str>, bool, Option<&str>, Option<&str>); 18] = [
+        (None, false, None, None),
+        (Some("a"), false, None, Some("a")),
+        (Some("--settings a"), false, Some("a"), None),
+        (Some("--settings a b"), false, Some("a"), Some("b")),
+        (Some("--settings a-b x"), false, Some("a-b"), Some("x")),
+        (Some("b --settings a"), false, Some("a"), Some("b")),
+        (Some("--settings=a b"), false, Some("a"), Some("b")),
+        (Some("--settings="), false, Some(""), None),
+        (Some("--settings "), false, Some(""), None),
+        (Some("--settings=-x"), false, Some("-x"), None),
+        (Some("--settings=--check"), false, Some("--check"), None),
+        (Some(""), false, None, Some("")),
+        (Some("-"), false, None, Some("-")),
+        (Some("-- --check"), false, None, Some("--check")),
+        (Some("--check"), true, None, None),
+        (Some("--check b"), true, None, Some("b")),
+        (Some("b --check --settings a"), true, Some("a"), Some("b")),
+        (
+            Some("--settings a --check -- -b"),
+            true,
+            Some("a"),
+            Some("-b"),
+        ),
     ];
-    for (line, settings, input) in rows {
+    for (line, checks, settings, input) in rows {
         let words = words_of(rt.alloc(), line)?;
         let Some(command) = read_words(rt.alloc(), words.as_slice())? else {
             return Err(Fail::from("no command"));
         };
-        let Command::Filter {
-            settings: found,
-            input: text,
-        } = command;
+        let (is_check, found, text) = match command {
+            Command::Filter { settings, input } => (false, settings, input),
+            Command::Check { settings, input } => (true, settings, input),
+        };
+        assert_eq!(rt; is_check, checks);
         assert_eq!(rt; found.as_deref(), settings);
         assert_eq!(rt; text.as_deref(), input);
     }
+    Ok(())
+}
+
+// A forum post that is good under the defaults, with one of its parts in another form.
+fn forum_post(alloc: Global, all: &str, line_break: &str) -> Result<String, AllocError> {
+    let mut post = String::new(alloc);
+    for part in [
+        "<p>Hello ",
+        all,
+        ", see <a href=\"http://example.com/a?b=1&amp;c=2\" title=\"A &quot;page&quot;\">this page</a>.</p>\n",
+        "<ul>\n<li>one</li>\n<li style=\"color:#ff0000;\">two</li>\n</ul>\n",
+        "<table border=\"1\" summary=\"t\">\n<tr><th scope=\"col\">k</th><td align=\"right\">1</td></tr>\n</table>\n",
+        "<p><img src=\"http://example.com/x.png\" alt=\"x\" width=\"40\" height=\"30\" />",
+        line_break,
+        "\n&lt;3 © 2024</p>\n",
+    ] {
+        post.push_str(part)?;
+    }
+    Ok(post)
+}
+
+#[test]
+fn a_good_post_passes_unchanged(rt: HostRuntime) -> Result<(), Fail> {
+    let post = forum_post(rt.alloc(), "<strong>all</strong>", "<br />")?;
+    let ending = run_over(rt.alloc(), None, b"", post.as_bytes(), ROOM)?;
+    assert_eq!(rt; ending.status, 0);
+    assert_eq!(rt; ending.out.taken(), post.as_bytes());
+    Ok(())
+}
+
+#[test]
+fn posts_are_checked(rt: HostRuntime) -> Result<(), Fail> {
+    let rows: [(&str, &str, &str, u8, &[u8]); 3] = [
+        (
+            "a_good_post",
+            "<strong>all</strong>",
+            "<br />",
+            0,
+            b"good\n",
+        ),
+        (
+            "a_break_without_its_slash",
+            "<strong>all</strong>",
+            "<br>",
+            3,
+            b"spelling\n",
+        ),
+        (
+            "a_block_in_a_paragraph",
+            "<div>all</div>",
+            "<br />",
+            4,
+            b"validity\n",
+        ),
+    ];
+    for (name, all, line_break, status, report) in rows {
+        let post = forum_post(rt.alloc(), all, line_break)?;
+        let ending = run_over(rt.alloc(), Some("--check"), b"", post.as_bytes(), ROOM)?;
+        assert_eq!(rt; ending.status, status, "at {name}");
+        assert_eq!(rt; ending.out.taken(), report, "at {name}");
+        assert_eq!(rt; ending.err.taken(), b"".as_slice(), "at {name}");
+    }
+    Ok(())
+}
+
+#[test]
+fn fragments_are_checked(rt: HostRuntime) -> Result<(), Fail> {
+    // a name, the settings, the input, the status and what is written
+    let rows: [(&str, &[u8], &[u8], u8, &[u8]); 12] = [
+        ("nothing", b"", b"", 0, b"good\n"),
+        ("a_text", b"", b"Hello", 0, b"good\n"),
+        ("a_bare_ampersand", b"", b"a & b", 3, b"spelling\n"),
+        ("a_reference", b"", b"a &amp; b", 0, b"good\n"),
+        ("bytes_that_are_no_text", b"", b"\xFF", 3, b"spelling\n"),
+        ("a_missing_end_tag", b"", b"<p>a", 3, b"spelling\n"),
+        ("an_empty_list", b"", b"<ul></ul>", 4, b"validity\n"),
+        ("a_centre", b"", b"<center>a</center>", 0, b"good\n"),
+        (
+            "a_centre_in_strict",
+            b"doctype = \"strict\"",
+            b"<center>a</center>",
+            4,
+            b"validity\n",
+        ),
+        (
+            "a_link",
+            b"denied_hosts = [\"bad.com\"]",
+            b"<a href=\"http://notbad.com/\">y</a>",
+            0,
+            b"good\n",
+        ),
+        (
+            "a_link_to_a_denied_host",
+            b"denied_hosts = [\"bad.com\"]",
+            b"<a href=\"http://x.bad.com/\">y</a>",
+            4,
+            b"validity\n",
+        ),
+        (
+            "neither_spelled_nor_valid",
+            b"",
+            b"<ul><br></ul>",
+            3,
+            b"spelling\n",
+        ),
+    ];
+    for (name, rules, input, status, report) in rows {
+        let ending = run_over(
+            rt.alloc(),
+            Some("--check --settings rules"),
+            rules,
+            input,
+            ROOM,
+        )?;
+        assert_eq!(rt; ending.status, status, "at {name}");
+        assert_eq!(rt; ending.out.taken(), report, "at {name}");
+        assert_eq!(rt; ending.err.taken(), b"".as_slice(), "at {name}");
+    }
+    Ok(())
+}
+
+// So many `div`s in one another, with a text in the innermost.
+fn nested(alloc: Global, count: usize) -> Result<String, AllocError> {
+    let mut text = String::new(alloc);
+    for _ in 0..count {
+        text.push_str("<div>")?;
+    }
+    text.push_str("x")?;
+    for _ in 0..count {
+        text.push_str("</div>")?;
+    }
+    Ok(text)
+}
+
+// 129 levels are one too many: the filter writes 128, which stay and are good, and no nodes are spelled as 129.
+#[test]
+fn levels_end(rt: HostRuntime) -> Result<(), Fail> {
+    let deep = nested(rt.alloc(), 129)?;
+    let low = nested(rt.alloc(), 128)?;
+    let rows: [(&str, Option<&str>, &str, u8, &[u8]); 4] = [
+        ("129_filtered", None, deep.as_str(), 0, low.as_bytes()),
+        ("128_filtered", None, low.as_str(), 0, low.as_bytes()),
+        (
+            "129_checked",
+            Some("--check"),
+            deep.as_str(),
+            3,
+            b"spelling\n",
+        ),
+        ("128_checked", Some("--check"), low.as_str(), 0, b"good\n"),
+    ];
+    for (name, line, input, status, out) in rows {
+        let ending = run_over(rt.alloc(), line, b"", input.as_bytes(), ROOM)?;
+        assert_eq!(rt; ending.status, status, "at {name}");
+        assert_eq!(rt; ending.out.taken(), out, "at {name}");
+    }
+    Ok(())
+}
+
+// A check refuses and fails as a filter does.
+#[test]
+fn checks_are_refused(rt: HostRuntime) -> Result<(), Fail> {
+    let rows: [(&str, &str, &[u8], u8, &str); 3] = [
+        (
+            "refused_settings",
+            "--check --settings rules none",
+            b"=",
+            5,
+            "purify: settings refused\n",
+        ),
+        (
+            "a_missing_input",
+            "--check none",
+            b"",
+            7,
+            "purify: cannot read\n",
+        ),
+        (
+            "missing_settings",
+            "--check --settings none",
+            b"",
+            7,
+            "purify: cannot read\n",
+        ),
+    ];
+    for (name, line, rules, status, complaint) in rows {
+        let ending = run_over(rt.alloc(), Some(line), rules, b"Hello", ROOM)?;
+        assert!(rt; is_refusal(&ending, status, complaint), "at {name}");
+    }
+    let input = vec![in rt.alloc(); b'a'; 1_048_577]?;
+    let ending = run_over(rt.alloc(), Some("--check"), b"", input.as_slice(), ROOM)?;
+    assert!(rt; is_refusal(&ending, 6, "purify: input too long\n"));
+    Ok(())
+}
+
+#[test]
+fn check_at_a_fault_of_writing(rt: HostRuntime) -> Result<(), Fail> {
+    let alloc = rt.alloc();
+    let words = words_of(alloc, Some("--check"))?;
+    let mut shelf = MemShelf::new(texts_of(alloc, b"", b"<p>")?, Vec::new(alloc), 65_536);
+    let mut out = MemSink::new(alloc, 100, vec![in alloc; 2]?, 3)?;
+    let mut err = MemSink::new(alloc, 100, Vec::new(alloc), 100)?;
+    assert_eq!(rt;
+        run(alloc, words.as_slice(), &mut shelf, &mut out, &mut err),
+        8
+    );
+    assert_eq!(rt; out.taken(), b"spe".as_slice());
+    assert_eq!(rt; err.taken(), b"purify: cannot write\n".as_slice());
     Ok(())
 }
 

@@ -1,73 +1,83 @@
-// The words of the command line.
-ghost use Rattle.std.specs.Prelude.{◌≡◌, map, option_map, string_bytes, IfOk};
-ghost use Rattle.pur_cli.specs.Words.{plain_command, is_file_word, with_input, with_settings, command_of};
+// The words of the command line, as `clap` reads them.
+ghost use Rattle.std.specs.Prelude.{◌≡◌, ℕ, ◌∷◌, true, map, option_map, string_bytes, codes, IfOk, is_some};
+ghost use Rattle.clap.specs.Words.{app_of};
+ghost use Rattle.pur_cli.specs.Words.{plain_command, plain_parts, work_named, purify_app, command_of};
 
+use crate::command::{Command, Work};
+use clap::error::ErrorKind;
+use clap::{Arg, ArgAction};
 use std::alloc::{AllocError, Global};
 
-/// What the words of the command line ask for.
-#[derive(Debug, Drop, PartialEq, Eq)]
-pub enum Command {
-    /// Filter an input under settings.
-    Filter {
-        /// The file of the settings; none for the defaults.
-        settings: Option<String>,
-        /// The file of the input; none for standard input.
-        input: Option<String>,
-    },
-}
-
 /// The command that the words of the command line name, without the program's own name in front of them:
-/// `--settings FILE` first, if it stands there, and then INPUT, if it stands there. Neither file is the empty word
-/// or begins with `-`. Every other list of words names no command. The error is want of memory.
+/// `[--settings FILE] [--check] [INPUT]`. None exactly where `clap` finds a fault in the words.
+///
+/// The options may stand in any order, before INPUT or behind it, and each at most once. `--settings=FILE` is read like
+/// `--settings FILE`; behind a word `--` each word is an INPUT. The error is want of memory.
 pub fn read_words(alloc: Global, words: &[String]) -> Result<Option<Command>, AllocError>
     ensures { IfOk result (λ command. option_map plain_command command ≡ command_of (map string_bytes words.now)) }
 {
-    match words {
-        [first, rest @ ..] if first.as_str() == "--settings" => read_settings_word(alloc, rest),
-        _ => read_input_word(alloc, None, words),
+    let all = with_name(alloc, words)?;
+    let program = command_line(alloc)?;
+    match program.try_get_matches_from(all.as_slice()) {
+        Ok(matches) => {
+            let work = work_of(matches.get_str("check"));
+            let settings = copy_name(alloc, matches.get_str("settings"))?;
+            let input = copy_name(alloc, matches.get_str("input"))?;
+            Ok(Some(make_command(work, settings, input)))
+        }
+        Err(error) if error.kind() == ErrorKind::OutOfMemory => Err(AllocError),
+        Err(_) => Ok(None),
     }
 }
 
-// The command that the words behind `--settings` name.
-fn read_settings_word(alloc: Global, words: &[String]) -> Result<Option<Command>, AllocError>
-    ensures { IfOk result (λ command. option_map plain_command command ≡ with_settings (map string_bytes words.now)) }
+// The command line as `clap` is told it.
+fn command_line<'a>(alloc: Global) -> Result<clap::Command<'a>, AllocError>
+    ensures { IfOk result (λ program. app_of program ≡ purify_app) }
 {
-    match words {
-        [file, rest @ ..] if is_file(file) => read_input_word(alloc, Some(file), rest),
-        _ => Ok(None),
+    let settings = Arg::new(alloc, "settings")
+        .long("settings")
+        .action(ArgAction::Set);
+    let check = Arg::new(alloc, "check")
+        .long("check")
+        .action(ArgAction::SetTrue);
+    let input = Arg::new(alloc, "input").action(ArgAction::Set);
+    clap::Command::new(alloc, "purify")
+        .disable_help_flag(true)
+        .disable_version_flag(true)
+        .arg(settings)?
+        .arg(check)?
+        .arg(input)
+}
+
+// The words with the program's name in front, where `clap` looks for it.
+fn with_name(alloc: Global, words: &[String]) -> Result<Vec<&str>, AllocError>
+    ensures { IfOk result (λ all. map (λ word. word.now) all.items ≡ codes "purify" ∷ map string_bytes words.now) }
+{
+    let mut all = vec![in alloc; "purify"]?;
+    for word in words {
+        all.push(word.as_str())?;
+    }
+    Ok(all)
+}
+
+// What is done with the input, by the value of the flag `--check`.
+fn work_of(value: Option<&str>) -> Work
+    ensures { result ≡ work_named (option_map (λ word. word.now) value.entry) }
+{
+    match value {
+        Some("true") => Work::Check,
+        _ => Work::Filter,
     }
 }
 
-// The command that names these settings, and the input that the words name.
-fn read_input_word(
-    alloc: Global,
-    settings: Option<&str>,
-    words: &[String],
-) -> Result<Option<Command>, AllocError>
-    ensures { IfOk result (λ command. option_map plain_command command
-        ≡ with_input (option_map (λ file. file.now) settings.entry) (map string_bytes words.now)) }
+// The command that does this work.
+fn make_command(work: Work, settings: Option<String>, input: Option<String>) -> Command
+    ensures { plain_command result ≡ plain_parts work settings input }
 {
-    match words {
-        [] => filter_of(alloc, settings, None),
-        [file] if is_file(file) => filter_of(alloc, settings, Some(file)),
-        _ => Ok(None),
+    match work {
+        Work::Filter => Command::Filter { settings, input },
+        Work::Check => Command::Check { settings, input },
     }
-}
-
-// The command that filters this input under these settings.
-fn filter_of(
-    alloc: Global,
-    settings: Option<&str>,
-    input: Option<&str>,
-) -> Result<Option<Command>, AllocError>
-    ensures { IfOk result (λ command. option_map plain_command command ≡ Some (record {
-      settings = option_map (λ file. file.now) settings.entry;
-      input = option_map (λ file. file.now) input.entry;
-    })) }
-{
-    let settings = copy_name(alloc, settings)?;
-    let input = copy_name(alloc, input)?;
-    Ok(Some(Command::Filter { settings, input }))
 }
 
 // A name of the program's own, where there is one.
@@ -78,11 +88,4 @@ fn copy_name(alloc: Global, name: Option<&str>) -> Result<Option<String>, AllocE
         Some(name) => Ok(Some(String::from_str(alloc, name)?)),
         None => Ok(None),
     }
-}
-
-// Whether a word is a file's name.
-fn is_file(word: &str) -> bool
-    ensures { result ≡ is_file_word word.now }
-{
-    !word.is_empty() && !word.starts_with('-')
 }
