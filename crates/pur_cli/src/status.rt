@@ -59,6 +59,7 @@ impl Status {
             Status::CannotWrite => "purify: cannot write\n",
         }
     }
+
     /// What a check writes that finds so, with its line feed; empty for the other statuses.
     pub fn report(self) -> &'static str
         ensures { result.now ≡ report_of self }

@@ -381,28 +381,29 @@ fn nested(alloc: Global, count: usize) -> Result<String, AllocError> {
     Ok(text)
 }
 
+// Whether a run over this input ends with this status and has written this.
+fn ends_so(
+    alloc: Global,
+    line: Option<&str>,
+    input: &str,
+    status: u8,
+    out: &[u8],
+) -> Result<bool, Fail> {
+    let ending = run_over(alloc, line, b"", input.as_bytes(), ROOM)?;
+    Ok(ending.status == status && ending.out.taken() == out)
+}
+
 // 129 levels are one too many: the filter writes 128, which stay and are good, and no nodes are spelled as 129.
 #[test]
 fn levels_end(rt: HostRuntime) -> Result<(), Fail> {
-    let deep = nested(rt.alloc(), 129)?;
-    let low = nested(rt.alloc(), 128)?;
-    let rows: [(&str, Option<&str>, &str, u8, &[u8]); 4] = [
-        ("129_filtered", None, deep.as_str(), 0, low.as_bytes()),
-        ("128_filtered", None, low.as_str(), 0, low.as_bytes()),
-        (
-            "129_checked",
-            Some("--check"),
-            deep.as_str(),
-            3,
-            b"spelling\n",
-        ),
-        ("128_checked", Some("--check"), low.as_str(), 0, b"good\n"),
-    ];
-    for (name, line, input, status, out) in rows {
-        let ending = run_over(rt.alloc(), line, b"", input.as_bytes(), ROOM)?;
-        assert_eq!(rt; ending.status, status, "at {name}");
-        assert_eq!(rt; ending.out.taken(), out, "at {name}");
-    }
+    let alloc = rt.alloc();
+    let deep = nested(alloc, 129)?;
+    let low = nested(alloc, 128)?;
+    let check = Some("--check");
+    assert!(rt; ends_so(alloc, None, deep.as_str(), 0, low.as_bytes())?);
+    assert!(rt; ends_so(alloc, None, low.as_str(), 0, low.as_bytes())?);
+    assert!(rt; ends_so(alloc, check, deep.as_str(), 3, b"spelling\n")?);
+    assert!(rt; ends_so(alloc, check, low.as_str(), 0, b"good\n")?);
     Ok(())
 }
 
