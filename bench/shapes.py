@@ -105,4 +105,12 @@ KINDS = {
     "parentheses in a style": repeated(b"(", head=b"<p style='color:", tail=b"'>x"),
     "families in a style": repeated(b"a,", head=b"<p style='font-family:", tail=b"'>x"),
     "tables in tables": repeated(b"<table><tr><td>a"),
+    "good paragraphs": repeated(b"<p></p>"),
+    "good line breaks": repeated(b"<br />"),
+    "good items": repeated(b"<li>a</li>", head=b"<ul>", tail=b"</ul>"),
+    "good rows": repeated(b"<tr><td>a</td></tr>", head=b"<table>", tail=b"</table>"),
+    "good links": repeated(b'<a href="/a">b</a>'),
+    "good ids": lambda size: b"".join(b'<p id="i%07d"></p>' % number for number in range(size // 22)),
+    "good styles": repeated(b'<b style="color:#ff0000;">a</b>'),
+    "good escapes": repeated(b"&amp;"),
 }
