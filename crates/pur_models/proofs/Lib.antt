@@ -7,3 +7,4 @@ pub mod TableLemmas
 pub mod WordLemmas
 pub mod StandingLemmas
 pub mod SameLemmas
+mod KindLemmas

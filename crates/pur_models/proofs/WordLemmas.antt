@@ -5,18 +5,19 @@ use mathlib.Core.Bool.{beq}
 use Rattle.pur_laws.proofs.Truth.{same_truth}
 use Rattle.pur_modules.proofs.KindLaws.{each_kind}
 use Rattle.pur_names.specs.declared.elements.Element.{Element}
-use Rattle.pur_names.specs.declared.elements.Element.TheVariants.{Col, Colgroup, Dd, Del, Dt, Ins, Li, P, Tbody, Td, Th, Tr}
+use Rattle.pur_names.specs.declared.elements.Element.TheVariants.{Col, Colgroup, Tbody, Tr}
 use Rattle.pur_modules.specs.declared.kinds.Child.{Child}
 use Rattle.pur_modules.specs.declared.kinds.Content.{Content}
-use Rattle.pur_modules.specs.declared.kinds.Content.TheVariants.{Inline, Flow, Block, AddressMix, Items, Pairs, TableParts, Rows, Cells, Cols, Nothing}
+use Rattle.pur_modules.specs.declared.kinds.Content.TheVariants.{TableParts}
 use Rattle.pur_modules.specs.declared.kinds.Doctype.{Doctype}
-use Rattle.pur_modules.specs.Expressions.{Step, any_of, elems, expression_of, is_letter, letters_of, one_step, some_of, table_way, text_or}
-use Rattle.pur_modules.specs.Groups.{block, inline}
+use Rattle.pur_modules.specs.Expressions.{Step, any_of, expression_of, is_letter, letters_of, one_step, some_of, table_way}
 use Rattle.pur_models.specs.Languages.{IsInLanguage, IsInWay, IsRun, Language, all_among, first_way, later_way, letters_in, no_step, step_first}
 use Rattle.pur_models.specs.Laws.{IsTableWord, may_be_empty, takes_any_number, takes_one_or_more}
 use Rattle.pur_models.specs.Deciding.{is_cut}
+use Rattle.pur_models.specs.Private.KindLetters.{kind_letters}
 use Rattle.pur_models.proofs.CuttingLemmas.{IsInLanguage-cut, cut-IsInLanguage}
 use Rattle.pur_models.proofs.ExpressionLemmas.{AreDisjoint-expression_of}
+use Rattle.pur_models.proofs.KindLemmas.{any_kind, some_kind}
 use Rattle.pur_models.proofs.LetterLemmas.{all_among-left, all_among-right}
 use Rattle.pur_models.proofs.RunLemmas.{letters_of_way}
 use Rattle.pur_models.proofs.TableLemmas.{all_allowed}
@@ -70,31 +71,12 @@ some_word doctype content letters word is full h =
 
 pub any_letters : (doctype : Doctype) (content : Content) (word : List Child) → takes_any_number content ≡ true
     → list_all (is_letter doctype content) word ≡ true → Language doctype content word
-any_letters doctype Inline word t h = any_word doctype Inline (text_or (inline doctype)) word refl h
-any_letters doctype Flow word t h = any_word doctype Flow (text_or (inline doctype ++ block doctype)) word refl h
-any_letters doctype Block word t h = any_word doctype Block (elems (block doctype ++ Ins ∷ Del ∷ [])) word refl h
-any_letters doctype AddressMix word t h = any_word doctype AddressMix (text_or (inline doctype ++ P ∷ [])) word refl h
-any_letters doctype Items word t h = absurd (cc)
-any_letters doctype Pairs word t h = absurd (cc)
-any_letters doctype TableParts word t h = absurd (cc)
-any_letters doctype Rows word t h = absurd (cc)
-any_letters doctype Cells word t h = absurd (cc)
-any_letters doctype Cols word t h = any_word doctype Cols (elems (Col ∷ [])) word refl h
-any_letters doctype Nothing word t h = absurd (cc)
+any_letters doctype content word t h = any_word doctype content (kind_letters doctype content) word (any_kind doctype content t) h
 
 pub some_letters : (doctype : Doctype) (content : Content) (word : List Child) → takes_one_or_more content ≡ true
     → 0 < length word → list_all (is_letter doctype content) word ≡ true → Language doctype content word
-some_letters doctype Inline word t full h = absurd (cc)
-some_letters doctype Flow word t full h = absurd (cc)
-some_letters doctype Block word t full h = absurd (cc)
-some_letters doctype AddressMix word t full h = absurd (cc)
-some_letters doctype Items word t full h = some_word doctype Items (elems (Li ∷ [])) word refl full h
-some_letters doctype Pairs word t full h = some_word doctype Pairs (elems (Dt ∷ Dd ∷ [])) word refl full h
-some_letters doctype TableParts word t full h = absurd (cc)
-some_letters doctype Rows word t full h = some_word doctype Rows (elems (Tr ∷ [])) word refl full h
-some_letters doctype Cells word t full h = some_word doctype Cells (elems (Th ∷ Td ∷ [])) word refl full h
-some_letters doctype Cols word t full h = absurd (cc)
-some_letters doctype Nothing word t full h = absurd (cc)
+some_letters doctype content word t full h =
+    some_word doctype content (kind_letters doctype content) word (some_kind doctype content t) full h
 
 -- the empty word is cut up in the kinds that may be empty alone
 empty_cut : (doctype : Doctype) (content : Content)

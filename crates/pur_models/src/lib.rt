@@ -17,6 +17,3 @@ pub use laws::{
 };
 pub use matching::matches;
 pub use models::model;
-
-#[cfg(test)]
-mod tests;

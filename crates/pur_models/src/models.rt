@@ -6,7 +6,7 @@ ghost use Rattle.pur_models.specs.Images.{step_of, way_of, ways_of};
 ghost use Rattle.pur_models.specs.Languages.{AreDisjoint};
 
 use crate::expressions::{Expr, Step};
-use crate::letters::{address_letters, block_letters, elements, flow_letters, inline_letters};
+use crate::letters::{elements, letters_of};
 use pur_modules::{Child, Content, Doctype};
 use pur_names::Element;
 use std::alloc::{AllocError, Global};
@@ -18,37 +18,22 @@ use std::alloc::{AllocError, Global};
 /// Errors: want of memory.
 ///
 /// Source: XHTML 1.0, the element declarations of the two DTDs.
+#[tactic(auto, using(crate::proofs::KindLemmas::any_kind, crate::proofs::KindLemmas::some_kind))]
 pub fn model(alloc: Global, doctype: Doctype, content: Content) -> Result<Expr, AllocError>
     ensures value { IfOk result (λ model. ways_of model ≡ expression_of doctype content) }
     ensures disjoint { IfOk result (λ model. AreDisjoint (ways_of model)) }
 {
     match content {
-        // (text, inline elements)*
-        Content::Inline => one_step(alloc, any_of(inline_letters(alloc, doctype)?)),
-        // (text, inline elements, blocks)*
-        Content::Flow => one_step(alloc, any_of(flow_letters(alloc, doctype)?)),
-        // (blocks, ins, del)*
-        Content::Block => one_step(alloc, any_of(block_letters(alloc, doctype)?)),
-        // (text, inline elements, p)*
-        Content::AddressMix => one_step(alloc, any_of(address_letters(alloc, doctype)?)),
-        // (li)+
-        Content::Items => one_step(alloc, some_of(elements(alloc, &[Element::Li])?)),
-        // (dt, dd)+
-        Content::Pairs => one_step(
+        // (letters)*
+        Content::Inline | Content::Flow | Content::Block | Content::AddressMix | Content::Cols =>
+            one_step(alloc, any_of(letters_of(alloc, doctype, content)?)),
+        // (letters)+
+        Content::Items | Content::Pairs | Content::Rows | Content::Cells => one_step(
             alloc,
-            some_of(elements(alloc, &[Element::Dt, Element::Dd])?),
+            some_of(letters_of(alloc, doctype, content)?),
         ),
         // caption?, (col* or colgroup*), thead?, tfoot?, (tbody+ or tr+)
         Content::TableParts => table(alloc),
-        // (tr)+
-        Content::Rows => one_step(alloc, some_of(elements(alloc, &[Element::Tr])?)),
-        // (th, td)+
-        Content::Cells => one_step(
-            alloc,
-            some_of(elements(alloc, &[Element::Th, Element::Td])?),
-        ),
-        // (col)*
-        Content::Cols => one_step(alloc, any_of(elements(alloc, &[Element::Col])?)),
         // EMPTY
         Content::Nothing => no_step(alloc),
     }
@@ -65,7 +50,8 @@ fn no_step(alloc: Global) -> Result<Expr, AllocError>
 
 // The expression of one way with one step.
 fn one_step(alloc: Global, step: Step) -> Result<Expr, AllocError>
-    ensures { IfOk result (λ model. ways_of model ≡ one_step (step_of step)) }
+    ensures value { IfOk result (λ model. ways_of model ≡ one_step (step_of step)) }
+    ensures disjoint { IfOk result (λ model. AreDisjoint (ways_of model)) }
 {
     let mut steps = Vec::new(alloc);
     steps.push(step)?;

@@ -2,13 +2,13 @@
 use Rattle.std.specs.Prelude.{ℕ, Bool, true, false, List, [], ◌∷◌, ◌++◌, map}
 use Rattle.std.specs.List.{flat_map, list_any}
 use Rattle.pur_names.specs.declared.elements.Element.{Element}
-use Rattle.pur_names.specs.declared.elements.Element.TheVariants.{Caption, Col, Colgroup, Dd, Del, Dt, Ins, Li, P, Tbody, Td, Tfoot, Th, Thead, Tr}
+use Rattle.pur_names.specs.declared.elements.Element.TheVariants.{Caption, Col, Colgroup, Dd, Dt, Li, P, Tbody, Td, Tfoot, Th, Thead, Tr}
 use Rattle.pur_modules.specs.declared.kinds.Child.{Child}
 use Rattle.pur_modules.specs.declared.kinds.Child.TheVariants.{Text, Elem}
 use Rattle.pur_modules.specs.declared.kinds.Content.{Content}
 use Rattle.pur_modules.specs.declared.kinds.Content.TheVariants.{Inline, Flow, Block, AddressMix, Items, Pairs, TableParts, Rows, Cells, Cols, Nothing}
 use Rattle.pur_modules.specs.declared.kinds.Doctype.{Doctype}
-use Rattle.pur_modules.specs.Groups.{is_among, inline, block}
+use Rattle.pur_modules.specs.Groups.{is_among, inline, block, misc}
 
 -- a run of letters out of a set: at least so many of them, 0 or 1, and at most one unless there may be many
 pub record Step : Type 0 where
@@ -49,7 +49,7 @@ table_way column body =
 abbrev pub expression_of : Doctype → Content → List (List Step)
 expression_of doctype Inline = one_step (any_of (text_or (inline doctype)))
 expression_of doctype Flow = one_step (any_of (text_or (inline doctype ++ block doctype)))
-expression_of doctype Block = one_step (any_of (elems (block doctype ++ Ins ∷ Del ∷ [])))
+expression_of doctype Block = one_step (any_of (elems (misc ++ block doctype)))
 expression_of doctype AddressMix = one_step (any_of (text_or (inline doctype ++ P ∷ [])))
 expression_of doctype Items = one_step (some_of (elems (Li ∷ [])))
 expression_of doctype Pairs = one_step (some_of (elems (Dt ∷ Dd ∷ [])))

@@ -18,7 +18,7 @@ in_transitional Transitional elements = elements
 
 -- how text looks (%fontstyle; in the DTDs)
 abbrev pub fontstyle : Doctype → List Element
-fontstyle doctype = Tt ∷ I ∷ B ∷ Big ∷ Small ∷ [] ++ in_transitional doctype (U ∷ S ∷ Strike ∷ Font ∷ [])
+fontstyle doctype = in_transitional doctype (U ∷ S ∷ Strike ∷ Font ∷ []) ++ Tt ∷ I ∷ B ∷ Big ∷ Small ∷ []
 
 -- what a phrase is (%phrase;)
 abbrev pub phrase : List Element
@@ -48,7 +48,7 @@ parts = Li ∷ Dt ∷ Dd ∷ Caption ∷ Thead ∷ Tfoot ∷ Tbody ∷ Colgroup 
 
 -- the inline elements (%inline; with ins and del)
 abbrev pub inline : Doctype → List Element
-inline doctype = fontstyle doctype ++ phrase ++ special ++ misc ++ anchor
+inline doctype = fontstyle doctype ++ phrase ++ special ++ anchor ++ misc
 
 -- the elements of a doctype
 abbrev pub elements_of : Doctype → List Element

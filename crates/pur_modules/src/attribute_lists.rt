@@ -1,331 +1,87 @@
 //! The attributes of each element.
 
-ghost use Rattle.std.specs.Prelude.{◌≡◌, IsTrue};
+ghost use Rattle.std.specs.Prelude.{◌≡◌, ◌≤◌, IsTrue, length, take};
 ghost use Rattle.pur_modules.specs.AttributeLists.{attributes_of, required_of, is_without_repeats};
 ghost use Rattle.pur_modules.specs.declared.kinds.Doctype.TheVariants.{Strict, Transitional};
 
 use crate::kinds::Doctype;
-use pur_names::{Attr, Element};
+use pur_names::Attr::{
+    self, Abbr, Align, Alt, Bgcolor, Border, Cellpadding, Cellspacing, Cite, Class, Clear, Color,
+    Colspan, Compact, Dir, Face, Frame, Height, Href, Hspace, Id, Lang, ListType, Longdesc,
+    Noshade, Nowrap, Rel, Rowspan, Rules, Scope, Size, Span, Src, Start, Style, Summary, Target,
+    Title, Valign, Value, Vspace, Width, XmlLang,
+};
+use pur_names::Element;
 
-// What a Strict line break has.
-const BREAK: [Attr; 4] = [Attr::Id, Attr::Class, Attr::Style, Attr::Title];
+static BREAK: [Attr; 5] = [Id, Class, Style, Title, Clear];
 
-// What a Transitional line break has.
-const TRANSITIONAL_BREAK: [Attr; 5] = [
-    Attr::Id,
-    Attr::Class,
-    Attr::Style,
-    Attr::Title,
-    Attr::Clear,
+static PLAIN: [Attr; 7] = [Id, Class, Style, Title, Lang, XmlLang, Dir];
+
+static ALIGNED: [Attr; 8] = [Id, Class, Style, Title, Lang, XmlLang, Dir, Align];
+
+static COMPACT: [Attr; 8] = [Id, Class, Style, Title, Lang, XmlLang, Dir, Compact];
+
+static PREFORMATTED: [Attr; 8] = [Id, Class, Style, Title, Lang, XmlLang, Dir, Width];
+
+static CITING: [Attr; 8] = [Id, Class, Style, Title, Lang, XmlLang, Dir, Cite];
+
+static BULLETS: [Attr; 9] = [
+    Id, Class, Style, Title, Lang, XmlLang, Dir, ListType, Compact,
 ];
 
-// What nearly every element has.
-const COMMON: [Attr; 7] = [
-    Attr::Id,
-    Attr::Class,
-    Attr::Style,
-    Attr::Title,
-    Attr::Lang,
-    Attr::XmlLang,
-    Attr::Dir,
+static ITEM: [Attr; 9] = [Id, Class, Style, Title, Lang, XmlLang, Dir, ListType, Value];
+
+static NUMBERS: [Attr; 10] = [
+    Id, Class, Style, Title, Lang, XmlLang, Dir, ListType, Start, Compact,
 ];
 
-// What a Strict anchor has.
-const ANCHOR: [Attr; 9] = [
-    Attr::Id,
-    Attr::Class,
-    Attr::Style,
-    Attr::Title,
-    Attr::Lang,
-    Attr::XmlLang,
-    Attr::Dir,
-    Attr::Href,
-    Attr::Rel,
+static ANCHOR: [Attr; 10] = [
+    Id, Class, Style, Title, Lang, XmlLang, Dir, Href, Rel, Target,
 ];
 
-// What a Transitional anchor has.
-const TRANSITIONAL_ANCHOR: [Attr; 10] = [
-    Attr::Id,
-    Attr::Class,
-    Attr::Style,
-    Attr::Title,
-    Attr::Lang,
-    Attr::XmlLang,
-    Attr::Dir,
-    Attr::Href,
-    Attr::Rel,
-    Attr::Target,
+static FONT: [Attr; 10] = [
+    Id, Class, Style, Title, Lang, XmlLang, Dir, Size, Color, Face,
 ];
 
-// What a Strict image has.
-const IMAGE: [Attr; 12] = [
-    Attr::Id,
-    Attr::Class,
-    Attr::Style,
-    Attr::Title,
-    Attr::Lang,
-    Attr::XmlLang,
-    Attr::Dir,
-    Attr::Src,
-    Attr::Alt,
-    Attr::Longdesc,
-    Attr::Width,
-    Attr::Height,
+static ROW: [Attr; 10] = [
+    Id, Class, Style, Title, Lang, XmlLang, Dir, Align, Valign, Bgcolor,
 ];
 
-// What a Transitional image has.
-const TRANSITIONAL_IMAGE: [Attr; 16] = [
-    Attr::Id,
-    Attr::Class,
-    Attr::Style,
-    Attr::Title,
-    Attr::Lang,
-    Attr::XmlLang,
-    Attr::Dir,
-    Attr::Src,
-    Attr::Alt,
-    Attr::Longdesc,
-    Attr::Width,
-    Attr::Height,
-    Attr::Align,
-    Attr::Border,
-    Attr::Hspace,
-    Attr::Vspace,
+static COLUMNS: [Attr; 11] = [
+    Id, Class, Style, Title, Lang, XmlLang, Dir, Align, Valign, Span, Width,
 ];
 
-// What quotations and edits have.
-const CITING: [Attr; 8] = [
-    Attr::Id,
-    Attr::Class,
-    Attr::Style,
-    Attr::Title,
-    Attr::Lang,
-    Attr::XmlLang,
-    Attr::Dir,
-    Attr::Cite,
+static RULE: [Attr; 11] = [
+    Id, Class, Style, Title, Lang, XmlLang, Dir, Align, Noshade, Size, Width,
 ];
 
-// What a Strict table has.
-const TABLE: [Attr; 14] = [
-    Attr::Id,
-    Attr::Class,
-    Attr::Style,
-    Attr::Title,
-    Attr::Lang,
-    Attr::XmlLang,
-    Attr::Dir,
-    Attr::Summary,
-    Attr::Width,
-    Attr::Border,
-    Attr::Frame,
-    Attr::Rules,
-    Attr::Cellspacing,
-    Attr::Cellpadding,
+static IMAGE: [Attr; 16] = [
+    Id, Class, Style, Title, Lang, XmlLang, Dir, Src, Alt, Longdesc, Width, Height, Align, Border,
+    Hspace, Vspace,
 ];
 
-// What a Transitional table has.
-const TRANSITIONAL_TABLE: [Attr; 16] = [
-    Attr::Id,
-    Attr::Class,
-    Attr::Style,
-    Attr::Title,
-    Attr::Lang,
-    Attr::XmlLang,
-    Attr::Dir,
-    Attr::Summary,
-    Attr::Width,
-    Attr::Border,
-    Attr::Frame,
-    Attr::Rules,
-    Attr::Cellspacing,
-    Attr::Cellpadding,
-    Attr::Align,
-    Attr::Bgcolor,
+static TABLE: [Attr; 16] = [
+    Id,
+    Class,
+    Style,
+    Title,
+    Lang,
+    XmlLang,
+    Dir,
+    Summary,
+    Width,
+    Border,
+    Frame,
+    Rules,
+    Cellspacing,
+    Cellpadding,
+    Align,
+    Bgcolor,
 ];
 
-// What row groups have, and a Strict row.
-const ROWS: [Attr; 9] = [
-    Attr::Id,
-    Attr::Class,
-    Attr::Style,
-    Attr::Title,
-    Attr::Lang,
-    Attr::XmlLang,
-    Attr::Dir,
-    Attr::Align,
-    Attr::Valign,
-];
-
-// What a Transitional row has.
-const TRANSITIONAL_ROW: [Attr; 10] = [
-    Attr::Id,
-    Attr::Class,
-    Attr::Style,
-    Attr::Title,
-    Attr::Lang,
-    Attr::XmlLang,
-    Attr::Dir,
-    Attr::Align,
-    Attr::Valign,
-    Attr::Bgcolor,
-];
-
-// What columns and their groups have.
-const COLUMNS: [Attr; 11] = [
-    Attr::Id,
-    Attr::Class,
-    Attr::Style,
-    Attr::Title,
-    Attr::Lang,
-    Attr::XmlLang,
-    Attr::Dir,
-    Attr::Align,
-    Attr::Valign,
-    Attr::Span,
-    Attr::Width,
-];
-
-// What a Strict cell has.
-const CELL: [Attr; 13] = [
-    Attr::Id,
-    Attr::Class,
-    Attr::Style,
-    Attr::Title,
-    Attr::Lang,
-    Attr::XmlLang,
-    Attr::Dir,
-    Attr::Align,
-    Attr::Valign,
-    Attr::Abbr,
-    Attr::Scope,
-    Attr::Rowspan,
-    Attr::Colspan,
-];
-
-// What a Transitional cell has.
-const TRANSITIONAL_CELL: [Attr; 17] = [
-    Attr::Id,
-    Attr::Class,
-    Attr::Style,
-    Attr::Title,
-    Attr::Lang,
-    Attr::XmlLang,
-    Attr::Dir,
-    Attr::Align,
-    Attr::Valign,
-    Attr::Abbr,
-    Attr::Scope,
-    Attr::Rowspan,
-    Attr::Colspan,
-    Attr::Nowrap,
-    Attr::Width,
-    Attr::Height,
-    Attr::Bgcolor,
-];
-
-// What Transitional paragraphs, headings, divisions and captions have.
-const ALIGNED: [Attr; 8] = [
-    Attr::Id,
-    Attr::Class,
-    Attr::Style,
-    Attr::Title,
-    Attr::Lang,
-    Attr::XmlLang,
-    Attr::Dir,
-    Attr::Align,
-];
-
-// What a Transitional rule has.
-const TRANSITIONAL_RULE: [Attr; 11] = [
-    Attr::Id,
-    Attr::Class,
-    Attr::Style,
-    Attr::Title,
-    Attr::Lang,
-    Attr::XmlLang,
-    Attr::Dir,
-    Attr::Align,
-    Attr::Noshade,
-    Attr::Size,
-    Attr::Width,
-];
-
-// What a Transitional bulleted list has.
-const TRANSITIONAL_BULLETS: [Attr; 9] = [
-    Attr::Id,
-    Attr::Class,
-    Attr::Style,
-    Attr::Title,
-    Attr::Lang,
-    Attr::XmlLang,
-    Attr::Dir,
-    Attr::ListType,
-    Attr::Compact,
-];
-
-// What a Transitional numbered list has.
-const TRANSITIONAL_NUMBERS: [Attr; 10] = [
-    Attr::Id,
-    Attr::Class,
-    Attr::Style,
-    Attr::Title,
-    Attr::Lang,
-    Attr::XmlLang,
-    Attr::Dir,
-    Attr::ListType,
-    Attr::Start,
-    Attr::Compact,
-];
-
-// What a Transitional list item has.
-const TRANSITIONAL_ITEM: [Attr; 9] = [
-    Attr::Id,
-    Attr::Class,
-    Attr::Style,
-    Attr::Title,
-    Attr::Lang,
-    Attr::XmlLang,
-    Attr::Dir,
-    Attr::ListType,
-    Attr::Value,
-];
-
-// What Transitional definition lists, directories and menus have.
-const COMPACT: [Attr; 8] = [
-    Attr::Id,
-    Attr::Class,
-    Attr::Style,
-    Attr::Title,
-    Attr::Lang,
-    Attr::XmlLang,
-    Attr::Dir,
-    Attr::Compact,
-];
-
-// What Transitional preformatted text has.
-const TRANSITIONAL_PREFORMATTED: [Attr; 8] = [
-    Attr::Id,
-    Attr::Class,
-    Attr::Style,
-    Attr::Title,
-    Attr::Lang,
-    Attr::XmlLang,
-    Attr::Dir,
-    Attr::Width,
-];
-
-// What a font change has.
-const FONT: [Attr; 10] = [
-    Attr::Id,
-    Attr::Class,
-    Attr::Style,
-    Attr::Title,
-    Attr::Lang,
-    Attr::XmlLang,
-    Attr::Dir,
-    Attr::Size,
-    Attr::Color,
-    Attr::Face,
+static CELL: [Attr; 17] = [
+    Id, Class, Style, Title, Lang, XmlLang, Dir, Align, Valign, Abbr, Scope, Rowspan, Colspan,
+    Nowrap, Width, Height, Bgcolor,
 ];
 
 /// The attributes that a doctype declares on an element, each once: those of all elements first.
@@ -333,13 +89,15 @@ const FONT: [Attr; 10] = [
 /// The list is empty where the doctype hasn't the element.
 ///
 /// Source: XHTML 1.0, the attribute lists of the two DTDs, without events and the attributes that this filter leaves out.
+#[tactic(auto, using(crate::proofs::AttributeLaws::declared_once))]
 pub fn attributes(doctype: Doctype, element: Element) -> &'static [Attr]
     ensures value { result.now ≡ attributes_of doctype element }
     ensures once { IsTrue (is_without_repeats result.now) }
 {
+    let (list, in_strict) = row_of(element);
     match doctype {
-        Doctype::Strict => strict(element),
-        Doctype::Transitional => transitional(element),
+        Doctype::Strict => &list[..in_strict],
+        Doctype::Transitional => list,
     }
 }
 
@@ -350,54 +108,29 @@ pub fn required(element: Element) -> &'static [Attr]
     ensures { result.now ≡ required_of element }
 {
     match element {
-        Element::Img => &[Attr::Src, Attr::Alt],
-        Element::Bdo => &[Attr::Dir],
+        Element::Img => &[Src, Alt],
+        Element::Bdo => &[Dir],
         _ => &[],
     }
 }
 
-// What Strict declares on an element.
+// An element's attributes under Transitional, and how many of them, from the front, Strict declares on it too.
 #[tactic(auto, unfolding(crate::specs::AttributeLists::attributes_of))]
-fn strict(element: Element) -> &'static [Attr]
-    ensures value { result.now ≡ attributes_of Strict element }
-    ensures once { IsTrue (is_without_repeats result.now) }
+fn row_of(element: Element) -> (&'static [Attr], usize)
+    ensures transitional { result.0.now ≡ attributes_of Transitional element }
+    ensures strict { take result.1 result.0.now ≡ attributes_of Strict element }
+    ensures within { result.1 ≤ length result.0.now }
 {
     match element {
-        Element::Br => &BREAK,
-        Element::A => &ANCHOR,
-        Element::Img => &IMAGE,
-        Element::Q | Element::Ins | Element::Del | Element::Blockquote => &CITING,
-        Element::Table => &TABLE,
-        Element::Thead | Element::Tfoot | Element::Tbody | Element::Tr => &ROWS,
-        Element::Colgroup | Element::Col => &COLUMNS,
-        Element::Th | Element::Td => &CELL,
-        Element::U
-        | Element::S
-        | Element::Strike
-        | Element::Font
-        | Element::Center
-        | Element::Dir
-        | Element::Menu => &[],
-        _ => &COMMON,
-    }
-}
-
-// What Transitional declares on an element.
-#[tactic(auto, unfolding(crate::specs::AttributeLists::attributes_of))]
-fn transitional(element: Element) -> &'static [Attr]
-    ensures value { result.now ≡ attributes_of Transitional element }
-    ensures once { IsTrue (is_without_repeats result.now) }
-{
-    match element {
-        Element::Br => &TRANSITIONAL_BREAK,
-        Element::A => &TRANSITIONAL_ANCHOR,
-        Element::Img => &TRANSITIONAL_IMAGE,
-        Element::Q | Element::Ins | Element::Del | Element::Blockquote => &CITING,
-        Element::Table => &TRANSITIONAL_TABLE,
-        Element::Thead | Element::Tfoot | Element::Tbody => &ROWS,
-        Element::Tr => &TRANSITIONAL_ROW,
-        Element::Colgroup | Element::Col => &COLUMNS,
-        Element::Th | Element::Td => &TRANSITIONAL_CELL,
+        Element::Br => (&BREAK, 4),
+        Element::A => (&ANCHOR, 9),
+        Element::Img => (&IMAGE, 12),
+        Element::Q | Element::Ins | Element::Del | Element::Blockquote => (&CITING, 8),
+        Element::Table => (&TABLE, 14),
+        Element::Thead | Element::Tfoot | Element::Tbody => (&ROW[..9], 9),
+        Element::Tr => (&ROW, 9),
+        Element::Colgroup | Element::Col => (&COLUMNS, 11),
+        Element::Th | Element::Td => (&CELL, 13),
         Element::P
         | Element::H1
         | Element::H2
@@ -406,14 +139,16 @@ fn transitional(element: Element) -> &'static [Attr]
         | Element::H5
         | Element::H6
         | Element::Div
-        | Element::Caption => &ALIGNED,
-        Element::Hr => &TRANSITIONAL_RULE,
-        Element::Ul => &TRANSITIONAL_BULLETS,
-        Element::Ol => &TRANSITIONAL_NUMBERS,
-        Element::Li => &TRANSITIONAL_ITEM,
-        Element::Dl | Element::Dir | Element::Menu => &COMPACT,
-        Element::Pre => &TRANSITIONAL_PREFORMATTED,
-        Element::Font => &FONT,
-        _ => &COMMON,
+        | Element::Caption => (&ALIGNED, 7),
+        Element::Hr => (&RULE, 7),
+        Element::Ul => (&BULLETS, 7),
+        Element::Ol => (&NUMBERS, 7),
+        Element::Li => (&ITEM, 7),
+        Element::Dl => (&COMPACT, 7),
+        Element::Pre => (&PREFORMATTED, 7),
+        Element::Dir | Element::Menu => (&COMPACT, 0),
+        Element::Font => (&FONT, 0),
+        Element::U | Element::S | Element::Strike | Element::Center => (&PLAIN, 0),
+        _ => (&PLAIN, 7),
     }
 }

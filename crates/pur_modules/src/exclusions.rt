@@ -3,7 +3,7 @@
 ghost use Rattle.std.specs.Prelude.{◌≡◌};
 ghost use Rattle.pur_modules.specs.Contents.{is_excluded};
 
-use pur_names::Element;
+use pur_names::Element::{self, A, Big, Font, Img, Pre, Small, Sub, Sup};
 
 /// Whether `inner` must not stand in `outer`, at any depth.
 ///
@@ -12,16 +12,8 @@ pub fn excludes(outer: Element, inner: Element) -> bool
     ensures { result ≡ is_excluded outer inner }
 {
     match outer {
-        Element::A => matches!(inner, Element::A),
-        Element::Pre => matches!(
-            inner,
-            Element::Img
-                | Element::Big
-                | Element::Small
-                | Element::Sub
-                | Element::Sup
-                | Element::Font
-        ),
+        A => matches!(inner, A),
+        Pre => matches!(inner, Img | Big | Small | Sub | Sup | Font),
         _ => false,
     }
 }

@@ -4,42 +4,43 @@ ghost use Rattle.std.specs.Prelude.{◌≡◌};
 ghost use Rattle.pur_modules.specs.Groups.{is_among, inline, block, misc};
 
 use crate::kinds::Doctype;
-use pur_names::Element;
+use pur_names::Element::{
+    self, A, Abbr, Acronym, Address, B, Bdo, Big, Blockquote, Br, Center, Cite, Code, Del, Dfn,
+    Dir, Div, Dl, Em, Font, H1, H2, H3, H4, H5, H6, Hr, I, Img, Ins, Kbd, Menu, Ol, P, Pre, Q, S,
+    Samp, Small, Span, Strike, Strong, Sub, Sup, Table, Tt, U, Ul, Var,
+};
 
 /// Whether the doctype has the element among its inline ones.
 pub fn is_inline(doctype: Doctype, element: Element) -> bool
     ensures { result ≡ is_among (inline doctype) element }
 {
     match element {
-        Element::U | Element::S | Element::Strike | Element::Font => matches!(
-            doctype,
-            Doctype::Transitional
-        ),
-        Element::Tt
-        | Element::I
-        | Element::B
-        | Element::Big
-        | Element::Small
-        | Element::Em
-        | Element::Strong
-        | Element::Dfn
-        | Element::Code
-        | Element::Q
-        | Element::Samp
-        | Element::Kbd
-        | Element::Var
-        | Element::Cite
-        | Element::Abbr
-        | Element::Acronym
-        | Element::Sub
-        | Element::Sup
-        | Element::Br
-        | Element::Span
-        | Element::Bdo
-        | Element::Img
-        | Element::Ins
-        | Element::Del
-        | Element::A => true,
+        U | S | Strike | Font => matches!(doctype, Doctype::Transitional),
+        Tt
+        | I
+        | B
+        | Big
+        | Small
+        | Em
+        | Strong
+        | Dfn
+        | Code
+        | Q
+        | Samp
+        | Kbd
+        | Var
+        | Cite
+        | Abbr
+        | Acronym
+        | Sub
+        | Sup
+        | Br
+        | Span
+        | Bdo
+        | Img
+        | Ins
+        | Del
+        | A => true,
         _ => false,
     }
 }
@@ -49,23 +50,23 @@ pub fn is_block(doctype: Doctype, element: Element) -> bool
     ensures { result ≡ is_among (block doctype) element }
 {
     match element {
-        Element::Center | Element::Dir | Element::Menu => matches!(doctype, Doctype::Transitional),
-        Element::P
-        | Element::H1
-        | Element::H2
-        | Element::H3
-        | Element::H4
-        | Element::H5
-        | Element::H6
-        | Element::Div
-        | Element::Ul
-        | Element::Ol
-        | Element::Dl
-        | Element::Pre
-        | Element::Hr
-        | Element::Blockquote
-        | Element::Address
-        | Element::Table => true,
+        Center | Dir | Menu => matches!(doctype, Doctype::Transitional),
+        P
+        | H1
+        | H2
+        | H3
+        | H4
+        | H5
+        | H6
+        | Div
+        | Ul
+        | Ol
+        | Dl
+        | Pre
+        | Hr
+        | Blockquote
+        | Address
+        | Table => true,
         _ => false,
     }
 }
@@ -74,5 +75,5 @@ pub fn is_block(doctype: Doctype, element: Element) -> bool
 pub fn is_edit(element: Element) -> bool
     ensures { result ≡ is_among misc element }
 {
-    matches!(element, Element::Ins | Element::Del)
+    matches!(element, Ins | Del)
 }

@@ -6,7 +6,12 @@ ghost use Rattle.pur_modules.specs.Contents.{all_holdings, content_in, content_h
 ghost use Rattle.pur_modules.specs.declared.kinds.Content.{Content};
 ghost use Rattle.pur_modules.specs.declared.kinds.Doctype.{Doctype};
 
-use pur_names::Element;
+use pur_names::Element::{
+    self, A, Abbr, Acronym, Address, B, Bdo, Big, Blockquote, Br, Caption, Center, Cite, Code, Col,
+    Colgroup, Dd, Del, Dfn, Dir, Div, Dl, Dt, Em, Font, H1, H2, H3, H4, H5, H6, Hr, I, Img, Ins,
+    Kbd, Li, Menu, Ol, P, Pre, Q, S, Samp, Small, Span, Strike, Strong, Sub, Sup, Table, Tbody, Td,
+    Tfoot, Th, Thead, Tr, Tt, U, Ul, Var,
+};
 
 /// A document type of XHTML 1.0.
 ///
@@ -65,59 +70,58 @@ pub fn content_of(doctype: Doctype, element: Element, parent: Content) -> Conten
     ensures told { IsSome (content_in (all_holdings doctype parent) element) }
 {
     match element {
-        Element::Tt
-        | Element::I
-        | Element::B
-        | Element::Big
-        | Element::Small
-        | Element::U
-        | Element::S
-        | Element::Strike
-        | Element::Font
-        | Element::Em
-        | Element::Strong
-        | Element::Dfn
-        | Element::Code
-        | Element::Q
-        | Element::Samp
-        | Element::Kbd
-        | Element::Var
-        | Element::Cite
-        | Element::Abbr
-        | Element::Acronym
-        | Element::Sub
-        | Element::Sup
-        | Element::Span
-        | Element::Bdo
-        | Element::A
-        | Element::P
-        | Element::H1
-        | Element::H2
-        | Element::H3
-        | Element::H4
-        | Element::H5
-        | Element::H6
-        | Element::Pre
-        | Element::Dt
-        | Element::Caption => Content::Inline,
-        Element::Div | Element::Li | Element::Dd | Element::Th | Element::Td | Element::Center =>
-            Content::Flow,
-        Element::Ul | Element::Ol | Element::Dir | Element::Menu => Content::Items,
-        Element::Dl => Content::Pairs,
-        Element::Table => Content::TableParts,
-        Element::Thead | Element::Tfoot | Element::Tbody => Content::Rows,
-        Element::Tr => Content::Cells,
-        Element::Colgroup => Content::Cols,
-        Element::Br | Element::Hr | Element::Img | Element::Col => Content::Nothing,
-        Element::Address => match doctype {
+        Tt
+        | I
+        | B
+        | Big
+        | Small
+        | U
+        | S
+        | Strike
+        | Font
+        | Em
+        | Strong
+        | Dfn
+        | Code
+        | Q
+        | Samp
+        | Kbd
+        | Var
+        | Cite
+        | Abbr
+        | Acronym
+        | Sub
+        | Sup
+        | Span
+        | Bdo
+        | A
+        | P
+        | H1
+        | H2
+        | H3
+        | H4
+        | H5
+        | H6
+        | Pre
+        | Dt
+        | Caption => Content::Inline,
+        Div | Li | Dd | Th | Td | Center => Content::Flow,
+        Ul | Ol | Dir | Menu => Content::Items,
+        Dl => Content::Pairs,
+        Table => Content::TableParts,
+        Thead | Tfoot | Tbody => Content::Rows,
+        Tr => Content::Cells,
+        Colgroup => Content::Cols,
+        Br | Hr | Img | Col => Content::Nothing,
+        Address => match doctype {
             Doctype::Strict => Content::Inline,
             Doctype::Transitional => Content::AddressMix,
         },
-        Element::Blockquote => match doctype {
+        Blockquote => match doctype {
             Doctype::Strict => Content::Block,
             Doctype::Transitional => Content::Flow,
         },
-        Element::Ins | Element::Del => match parent {
+        Ins | Del => match parent {
             Content::Inline | Content::AddressMix => Content::Inline,
             _ => Content::Flow,
         },
@@ -131,10 +135,7 @@ pub fn is_declared_empty(element: Element) -> bool
     ensures value { result ≡ is_empty_element element }
     ensures nothing { (doctype : Doctype) (parent : Content) → is_nothing (content_held doctype element parent) ≡ result }
 {
-    matches!(
-        element,
-        Element::Br | Element::Hr | Element::Img | Element::Col
-    )
+    matches!(element, Br | Hr | Img | Col)
 }
 
 /// Whether the doctype has the element: Transitional has all, and Strict all but seven.
@@ -144,13 +145,7 @@ pub fn declares(doctype: Doctype, element: Element) -> bool
     ensures { result ≡ is_among (elements_of doctype) element }
 {
     match element {
-        Element::U
-        | Element::S
-        | Element::Strike
-        | Element::Font
-        | Element::Center
-        | Element::Dir
-        | Element::Menu => matches!(doctype, Doctype::Transitional),
+        U | S | Strike | Font | Center | Dir | Menu => matches!(doctype, Doctype::Transitional),
         _ => true,
     }
 }

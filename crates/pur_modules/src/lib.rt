@@ -18,6 +18,3 @@ pub use groups::{is_block, is_edit, is_inline};
 pub use kinds::{Child, Content, Doctype, content_of, declares, is_declared_empty};
 pub use tables::{allows, children, text_allowed};
 pub use wrappers::implied;
-
-#[cfg(test)]
-mod tests;

@@ -7,288 +7,35 @@ ghost use Rattle.pur_modules.specs.declared.kinds.Doctype.TheVariants.{Strict, T
 
 use crate::groups::{is_block, is_edit, is_inline};
 use crate::kinds::{Child, Content, Doctype};
-use pur_names::Element;
+use pur_names::Element::{
+    self, A, Abbr, Acronym, Address, B, Bdo, Big, Blockquote, Br, Caption, Center, Cite, Code, Col,
+    Colgroup, Dd, Del, Dfn, Dir, Div, Dl, Dt, Em, Font, H1, H2, H3, H4, H5, H6, Hr, I, Img, Ins,
+    Kbd, Li, Menu, Ol, P, Pre, Q, S, Samp, Small, Span, Strike, Strong, Sub, Sup, Table, Tbody, Td,
+    Tfoot, Th, Thead, Tr, Tt, U, Ul, Var,
+};
 
-// The inline elements of Strict.
-const STRICT_INLINE: [Element; 25] = [
-    Element::Tt,
-    Element::I,
-    Element::B,
-    Element::Big,
-    Element::Small,
-    Element::Em,
-    Element::Strong,
-    Element::Dfn,
-    Element::Code,
-    Element::Q,
-    Element::Samp,
-    Element::Kbd,
-    Element::Var,
-    Element::Cite,
-    Element::Abbr,
-    Element::Acronym,
-    Element::Sub,
-    Element::Sup,
-    Element::Br,
-    Element::Span,
-    Element::Bdo,
-    Element::Img,
-    Element::Ins,
-    Element::Del,
-    Element::A,
+// The elements of flow content, laid out so that each content without an order of its own is a run of them: the inline
+// elements that Transitional alone has, the others, `ins` and `del`, `p`, the other blocks, and the blocks that
+// Transitional alone has.
+static FLOW: [Element; 48] = [
+    U, S, Strike, Font, Tt, I, B, Big, Small, Em, Strong, Dfn, Code, Q, Samp, Kbd, Var, Cite, Abbr,
+    Acronym, Sub, Sup, Br, Span, Bdo, Img, A, Ins, Del, P, H1, H2, H3, H4, H5, H6, Div, Ul, Ol, Dl,
+    Pre, Hr, Blockquote, Address, Table, Center, Dir, Menu,
 ];
 
-// The inline elements of Transitional.
-const TRANSITIONAL_INLINE: [Element; 29] = [
-    Element::Tt,
-    Element::I,
-    Element::B,
-    Element::Big,
-    Element::Small,
-    Element::U,
-    Element::S,
-    Element::Strike,
-    Element::Font,
-    Element::Em,
-    Element::Strong,
-    Element::Dfn,
-    Element::Code,
-    Element::Q,
-    Element::Samp,
-    Element::Kbd,
-    Element::Var,
-    Element::Cite,
-    Element::Abbr,
-    Element::Acronym,
-    Element::Sub,
-    Element::Sup,
-    Element::Br,
-    Element::Span,
-    Element::Bdo,
-    Element::Img,
-    Element::Ins,
-    Element::Del,
-    Element::A,
-];
+// Where the runs begin and end in FLOW.
+const STRICT_INLINE: usize = 4;
 
-// The inline elements and blocks of Strict.
-const STRICT_FLOW: [Element; 41] = [
-    Element::Tt,
-    Element::I,
-    Element::B,
-    Element::Big,
-    Element::Small,
-    Element::Em,
-    Element::Strong,
-    Element::Dfn,
-    Element::Code,
-    Element::Q,
-    Element::Samp,
-    Element::Kbd,
-    Element::Var,
-    Element::Cite,
-    Element::Abbr,
-    Element::Acronym,
-    Element::Sub,
-    Element::Sup,
-    Element::Br,
-    Element::Span,
-    Element::Bdo,
-    Element::Img,
-    Element::Ins,
-    Element::Del,
-    Element::A,
-    Element::P,
-    Element::H1,
-    Element::H2,
-    Element::H3,
-    Element::H4,
-    Element::H5,
-    Element::H6,
-    Element::Div,
-    Element::Ul,
-    Element::Ol,
-    Element::Dl,
-    Element::Pre,
-    Element::Hr,
-    Element::Blockquote,
-    Element::Address,
-    Element::Table,
-];
+const EDITS: usize = 27;
 
-// The inline elements and blocks of Transitional.
-const TRANSITIONAL_FLOW: [Element; 48] = [
-    Element::Tt,
-    Element::I,
-    Element::B,
-    Element::Big,
-    Element::Small,
-    Element::U,
-    Element::S,
-    Element::Strike,
-    Element::Font,
-    Element::Em,
-    Element::Strong,
-    Element::Dfn,
-    Element::Code,
-    Element::Q,
-    Element::Samp,
-    Element::Kbd,
-    Element::Var,
-    Element::Cite,
-    Element::Abbr,
-    Element::Acronym,
-    Element::Sub,
-    Element::Sup,
-    Element::Br,
-    Element::Span,
-    Element::Bdo,
-    Element::Img,
-    Element::Ins,
-    Element::Del,
-    Element::A,
-    Element::P,
-    Element::H1,
-    Element::H2,
-    Element::H3,
-    Element::H4,
-    Element::H5,
-    Element::H6,
-    Element::Div,
-    Element::Ul,
-    Element::Ol,
-    Element::Dl,
-    Element::Pre,
-    Element::Hr,
-    Element::Blockquote,
-    Element::Address,
-    Element::Table,
-    Element::Center,
-    Element::Dir,
-    Element::Menu,
-];
+const PARAGRAPH: usize = 29;
 
-// The blocks of Strict and the marks of editing.
-const STRICT_BLOCK: [Element; 18] = [
-    Element::P,
-    Element::H1,
-    Element::H2,
-    Element::H3,
-    Element::H4,
-    Element::H5,
-    Element::H6,
-    Element::Div,
-    Element::Ul,
-    Element::Ol,
-    Element::Dl,
-    Element::Pre,
-    Element::Hr,
-    Element::Blockquote,
-    Element::Address,
-    Element::Table,
-    Element::Ins,
-    Element::Del,
-];
+const OTHER_BLOCKS: usize = 30;
 
-// The blocks of Transitional and the marks of editing.
-const TRANSITIONAL_BLOCK: [Element; 21] = [
-    Element::P,
-    Element::H1,
-    Element::H2,
-    Element::H3,
-    Element::H4,
-    Element::H5,
-    Element::H6,
-    Element::Div,
-    Element::Ul,
-    Element::Ol,
-    Element::Dl,
-    Element::Pre,
-    Element::Hr,
-    Element::Blockquote,
-    Element::Address,
-    Element::Table,
-    Element::Center,
-    Element::Dir,
-    Element::Menu,
-    Element::Ins,
-    Element::Del,
-];
-
-// The inline elements of Strict and the paragraph.
-const STRICT_ADDRESS: [Element; 26] = [
-    Element::Tt,
-    Element::I,
-    Element::B,
-    Element::Big,
-    Element::Small,
-    Element::Em,
-    Element::Strong,
-    Element::Dfn,
-    Element::Code,
-    Element::Q,
-    Element::Samp,
-    Element::Kbd,
-    Element::Var,
-    Element::Cite,
-    Element::Abbr,
-    Element::Acronym,
-    Element::Sub,
-    Element::Sup,
-    Element::Br,
-    Element::Span,
-    Element::Bdo,
-    Element::Img,
-    Element::Ins,
-    Element::Del,
-    Element::A,
-    Element::P,
-];
-
-// The inline elements of Transitional and the paragraph.
-const TRANSITIONAL_ADDRESS: [Element; 30] = [
-    Element::Tt,
-    Element::I,
-    Element::B,
-    Element::Big,
-    Element::Small,
-    Element::U,
-    Element::S,
-    Element::Strike,
-    Element::Font,
-    Element::Em,
-    Element::Strong,
-    Element::Dfn,
-    Element::Code,
-    Element::Q,
-    Element::Samp,
-    Element::Kbd,
-    Element::Var,
-    Element::Cite,
-    Element::Abbr,
-    Element::Acronym,
-    Element::Sub,
-    Element::Sup,
-    Element::Br,
-    Element::Span,
-    Element::Bdo,
-    Element::Img,
-    Element::Ins,
-    Element::Del,
-    Element::A,
-    Element::P,
-];
+const TRANSITIONAL_BLOCKS: usize = 45;
 
 // The parts of a table.
-const TABLE_PARTS: [Element; 7] = [
-    Element::Caption,
-    Element::Col,
-    Element::Thead,
-    Element::Tfoot,
-    Element::Tbody,
-    Element::Tr,
-    Element::Colgroup,
-];
+static TABLE_PARTS: [Element; 7] = [Caption, Col, Thead, Tfoot, Tbody, Tr, Colgroup];
 
 /// The elements that may stand in a content, each once, in the order of its expression.
 ///
@@ -297,22 +44,22 @@ const TABLE_PARTS: [Element; 7] = [
 pub fn children(doctype: Doctype, content: Content) -> &'static [Element]
     ensures { result.now ≡ child_letters doctype content }
 {
-    match (doctype, content) {
-        (Doctype::Strict, Content::Inline) => &STRICT_INLINE,
-        (Doctype::Transitional, Content::Inline) => &TRANSITIONAL_INLINE,
-        (Doctype::Strict, Content::Flow) => &STRICT_FLOW,
-        (Doctype::Transitional, Content::Flow) => &TRANSITIONAL_FLOW,
-        (Doctype::Strict, Content::Block) => &STRICT_BLOCK,
-        (Doctype::Transitional, Content::Block) => &TRANSITIONAL_BLOCK,
-        (Doctype::Strict, Content::AddressMix) => &STRICT_ADDRESS,
-        (Doctype::Transitional, Content::AddressMix) => &TRANSITIONAL_ADDRESS,
-        (_, Content::Items) => &[Element::Li],
-        (_, Content::Pairs) => &[Element::Dt, Element::Dd],
-        (_, Content::TableParts) => &TABLE_PARTS,
-        (_, Content::Rows) => &[Element::Tr],
-        (_, Content::Cells) => &[Element::Th, Element::Td],
-        (_, Content::Cols) => &[Element::Col],
-        (_, Content::Nothing) => &[],
+    let (first, end) = match doctype {
+        Doctype::Strict => (STRICT_INLINE, TRANSITIONAL_BLOCKS),
+        Doctype::Transitional => (0, FLOW.len()),
+    };
+    match content {
+        Content::Inline => &FLOW[first..PARAGRAPH],
+        Content::AddressMix => &FLOW[first..OTHER_BLOCKS],
+        Content::Flow => &FLOW[first..end],
+        Content::Block => &FLOW[EDITS..end],
+        Content::Items => &[Li],
+        Content::Pairs => &[Dt, Dd],
+        Content::TableParts => &TABLE_PARTS,
+        Content::Rows => &[Tr],
+        Content::Cells => &[Th, Td],
+        Content::Cols => &[Col],
+        Content::Nothing => &[],
     }
 }
 
@@ -351,22 +98,16 @@ fn allows_element(doctype: Doctype, content: Content, element: Element) -> bool
         Content::Inline => is_inline(doctype, element),
         Content::Flow => is_inline(doctype, element) || is_block(doctype, element),
         Content::Block => is_block(doctype, element) || is_edit(element),
-        Content::AddressMix => is_inline(doctype, element) || matches!(element, Element::P),
-        Content::Items => matches!(element, Element::Li),
-        Content::Pairs => matches!(element, Element::Dt | Element::Dd),
+        Content::AddressMix => is_inline(doctype, element) || matches!(element, P),
+        Content::Items => matches!(element, Li),
+        Content::Pairs => matches!(element, Dt | Dd),
         Content::TableParts => matches!(
             element,
-            Element::Caption
-                | Element::Col
-                | Element::Colgroup
-                | Element::Thead
-                | Element::Tfoot
-                | Element::Tbody
-                | Element::Tr
+            Caption | Col | Colgroup | Thead | Tfoot | Tbody | Tr
         ),
-        Content::Rows => matches!(element, Element::Tr),
-        Content::Cells => matches!(element, Element::Th | Element::Td),
-        Content::Cols => matches!(element, Element::Col),
+        Content::Rows => matches!(element, Tr),
+        Content::Cells => matches!(element, Th | Td),
+        Content::Cols => matches!(element, Col),
         Content::Nothing => false,
     }
 }

@@ -9,7 +9,7 @@ ghost use Rattle.pur_modules.specs.declared.kinds.Content.TheVariants.{Block};
 use crate::groups::{is_edit, is_inline};
 use crate::kinds::{Child, Content, Doctype};
 use crate::tables::allows;
-use pur_names::Element;
+use pur_names::Element::{self, Dd, Li, P, Td, Th, Tr};
 
 /// The element that a content implies round a child that it doesn't allow, whether or not the settings permit that
 /// element; `Child::Text` is text that isn't white space.
@@ -24,10 +24,10 @@ pub fn implied(doctype: Doctype, content: Content, child: Child) -> Option<Eleme
     ensures { result ≡ wrapper_of doctype content child }
 {
     match content {
-        Content::Items => holding(doctype, Content::Flow, child, Element::Li),
-        Content::Pairs => holding(doctype, Content::Flow, child, Element::Dd),
+        Content::Items => holding(doctype, Content::Flow, child, Li),
+        Content::Pairs => holding(doctype, Content::Flow, child, Dd),
         Content::TableParts | Content::Rows => match child {
-            Child::Elem(Element::Td | Element::Th) => Some(Element::Tr),
+            Child::Elem(Td | Th) => Some(Tr),
             _ => None,
         },
         Content::Block => match doctype {
@@ -55,10 +55,10 @@ fn paragraph(child: Child) -> Option<Element>
     ensures { result ≡ wrapper_of Strict Block child }
 {
     match child {
-        Child::Text => Some(Element::P),
+        Child::Text => Some(P),
         Child::Elem(element) => {
             if is_inline(Doctype::Strict, element) && !is_edit(element) {
-                Some(Element::P)
+                Some(P)
             } else {
                 None
             }

@@ -5,10 +5,13 @@ use Rattle.std.specs.List.{list_all}
 use Rattle.std.proofs.lemmas.Bool.Decides.{Decides-eqb}
 use Rattle.std.proofs.lemmas.Option.{same_Some}
 use Rattle.pur_names.proofs.Found.{named-only}
+use Rattle.pur_names.proofs.Placed.{placed}
 use Rattle.pur_names.proofs.Variants.{each, each-found}
-use Rattle.pur_names.specs.Attributes.{attr_name, attr_named, all_attrs, attr_rank, same_attr}
+use Rattle.pur_names.specs.Attributes.{attr_place, attr_name, attr_named, all_attrs, attr_rank, same_attr}
 use Rattle.pur_names.specs.contracts.attributes.Attr.{the_type}
 use Rattle.pur_names.specs.declared.attributes.Attr.{Attr}
+use Rattle.pur_names.specs.declared.attributes.Attr.TheVariants.{Abbr}
+use lib.ListN.{get_or}
 
 -- what each in the list of all passes every attribute passes
 pub each_attr : (test : Attr → Bool) → list_all test all_attrs ≡ true → (a : Attr) → test a ≡ true
@@ -35,3 +38,11 @@ same_attr-Decides a b = (
   λ yes. same_Some _ _ (sym (all_attrs-rank a) ∙ ap (slice_get all_attrs) ((Decides-eqb (attr_rank a) (attr_rank b)).0 yes) ∙ all_attrs-rank b),
   λ same. (Decides-eqb (attr_rank a) (attr_rank b)).1 (ap attr_rank same),
 )
+
+-- each stands at its name's place in the table
+abbrev pub placed_attrs : List Attr
+placed_attrs = placed attr_name attr_place all_attrs Abbr
+
+pub attr-placed : (a : Attr) → get_or placed_attrs (attr_place (attr_name a)) Abbr ≡ a
+attr-placed a =
+    same_Some _ _ (each-found the_type tt all_attrs refl (λ k. Some (get_or placed_attrs k Abbr)) (λ b. attr_place (attr_name b)) refl a)

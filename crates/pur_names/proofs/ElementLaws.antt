@@ -5,10 +5,13 @@ use Rattle.std.specs.List.{list_all}
 use Rattle.std.proofs.lemmas.Bool.Decides.{Decides-eqb}
 use Rattle.std.proofs.lemmas.Option.{same_Some}
 use Rattle.pur_names.proofs.Found.{name-distinct, named-only}
+use Rattle.pur_names.proofs.Placed.{placed}
 use Rattle.pur_names.proofs.Variants.{each, each-found}
-use Rattle.pur_names.specs.Elements.{element_name, element_named, all_elements, element_rank, same_element}
+use Rattle.pur_names.specs.Elements.{element_place, element_name, element_named, all_elements, element_rank, same_element}
 use Rattle.pur_names.specs.contracts.elements.Element.{the_type}
 use Rattle.pur_names.specs.declared.elements.Element.{Element}
+use Rattle.pur_names.specs.declared.elements.Element.TheVariants.{A}
+use lib.ListN.{get_or}
 
 -- what each in the list of all passes every element passes
 pub each_element : (test : Element → Bool) → list_all test all_elements ≡ true → (e : Element) → test e ≡ true
@@ -43,3 +46,11 @@ same_element-Decides a b = (
 -- names are ASCII
 pub element_name-ascii : (e : Element) → list_all (λ c. nat_lt c 128) (element_name e) ≡ true
 element_name-ascii e = each_element (λ d. list_all (λ c. nat_lt c 128) (element_name d)) refl e
+
+-- each stands at its name's place in the table
+abbrev pub placed_elements : List Element
+placed_elements = placed element_name element_place all_elements A
+
+pub element-placed : (e : Element) → get_or placed_elements (element_place (element_name e)) A ≡ e
+element-placed e =
+    same_Some _ _ (each-found the_type tt all_elements refl (λ k. Some (get_or placed_elements k A)) (λ b. element_place (element_name b)) refl e)

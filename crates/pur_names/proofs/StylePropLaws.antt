@@ -5,10 +5,13 @@ use Rattle.std.specs.List.{list_all}
 use Rattle.std.proofs.lemmas.Bool.Decides.{Decides-eqb}
 use Rattle.std.proofs.lemmas.Option.{same_Some}
 use Rattle.pur_names.proofs.Found.{named-only}
+use Rattle.pur_names.proofs.Placed.{placed}
 use Rattle.pur_names.proofs.Variants.{each, each-found}
-use Rattle.pur_names.specs.Properties.{prop_name, prop_named, all_props, prop_rank, same_prop}
+use Rattle.pur_names.specs.Properties.{prop_place, prop_name, prop_named, all_props, prop_rank, same_prop}
 use Rattle.pur_names.specs.contracts.properties.StyleProp.{the_type}
 use Rattle.pur_names.specs.declared.properties.StyleProp.{StyleProp}
+use Rattle.pur_names.specs.declared.properties.StyleProp.TheVariants.{BackgroundAttachment}
+use lib.ListN.{get_or}
 
 -- what each in the list of all passes every property passes
 pub each_prop : (test : StyleProp → Bool) → list_all test all_props ≡ true → (p : StyleProp) → test p ≡ true
@@ -35,3 +38,11 @@ same_prop-Decides a b = (
   λ yes. same_Some _ _ (sym (all_props-rank a) ∙ ap (slice_get all_props) ((Decides-eqb (prop_rank a) (prop_rank b)).0 yes) ∙ all_props-rank b),
   λ same. (Decides-eqb (prop_rank a) (prop_rank b)).1 (ap prop_rank same),
 )
+
+-- each stands at its name's place in the table
+abbrev pub placed_props : List StyleProp
+placed_props = placed prop_name prop_place all_props BackgroundAttachment
+
+pub prop-placed : (p : StyleProp) → get_or placed_props (prop_place (prop_name p)) BackgroundAttachment ≡ p
+prop-placed p =
+    same_Some _ _ (each-found the_type tt all_props refl (λ k. Some (get_or placed_props k BackgroundAttachment)) (λ b. prop_place (prop_name b)) refl p)

@@ -2,6 +2,7 @@
 use Rattle.std.specs.Prelude.{ℕ, Bool, List, [], ◌∷◌, Option, codes, nat_eq}
 use Rattle.std.specs.List.{find}
 use Rattle.std.specs.Str.{bytes_eq}
+use Rattle.pur_names.specs.Places.{place_by}
 use Rattle.pur_names.specs.declared.attributes.Attr.{Attr}
 use Rattle.pur_names.specs.declared.attributes.Attr.TheVariants.{
   Abbr,
@@ -94,6 +95,10 @@ attr_name Value = codes "value"
 attr_name Vspace = codes "vspace"
 attr_name Width = codes "width"
 attr_name XmlLang = codes "xml:lang"
+
+-- its place in the table of names
+abbrev pub attr_place : List ℕ → ℕ
+attr_place name = place_by 2 2 7 2 name
 
 -- all of them, in the order of their ranks
 abbrev pub all_attrs : List Attr

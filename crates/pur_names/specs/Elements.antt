@@ -2,6 +2,7 @@
 use Rattle.std.specs.Prelude.{ℕ, Bool, List, [], ◌∷◌, Option, codes, nat_eq}
 use Rattle.std.specs.List.{find}
 use Rattle.std.specs.Str.{bytes_eq}
+use Rattle.pur_names.specs.Places.{place_by}
 use Rattle.pur_names.specs.declared.elements.Element.{Element}
 use Rattle.pur_names.specs.declared.elements.Element.TheVariants.{
   A,
@@ -128,6 +129,10 @@ element_name Tt = codes "tt"
 element_name U = codes "u"
 element_name Ul = codes "ul"
 element_name Var = codes "var"
+
+-- its place in the table of names
+abbrev pub element_place : List ℕ → ℕ
+element_place name = place_by 5 27 2 37 name
 
 -- all of them, in the order of their ranks
 abbrev pub all_elements : List Element

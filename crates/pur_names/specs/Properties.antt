@@ -1,7 +1,8 @@
 -- The names of the style properties and the look-up by a name (CSS 2.1, the property index).
-use Rattle.std.specs.Prelude.{ℕ, Bool, List, [], ◌∷◌, Option, codes, nat_eq, nat_le, ◌≡◌, ◌&&◌, filter, length}
+use Rattle.std.specs.Prelude.{ℕ, Bool, List, [], ◌∷◌, Option, codes, nat_eq}
 use Rattle.std.specs.List.{find}
 use Rattle.std.specs.Str.{bytes_eq}
+use Rattle.pur_names.specs.Places.{place_by}
 use Rattle.pur_names.specs.declared.properties.StyleProp.{StyleProp}
 use Rattle.pur_names.specs.declared.properties.StyleProp.TheVariants.{
   BackgroundAttachment,
@@ -119,6 +120,10 @@ prop_name WhiteSpace = codes "white-space"
 prop_name Width = codes "width"
 prop_name WordSpacing = codes "word-spacing"
 
+-- its place in the table of names
+abbrev pub prop_place : List ℕ → ℕ
+prop_place name = place_by 27 14 5 23 name
+
 -- all of them, in the order of their ranks
 abbrev pub all_props : List StyleProp
 all_props =
@@ -198,16 +203,3 @@ prop_rank WordSpacing = 54
 -- whether two are the same one: a test that computes
 abbrev pub same_prop : StyleProp → StyleProp → Bool
 same_prop a b = nat_eq (prop_rank a) (prop_rank b)
-
--- those whose names have at least and at most so many characters, in the order of the list of all
-abbrev pub props_by_length : ℕ → ℕ → List StyleProp
-props_by_length least most = filter (λ p. nat_le least (length (prop_name p)) && nat_le (length (prop_name p)) most) all_props
-
--- those whose names have at least so many characters
-abbrev pub props_from_length : ℕ → List StyleProp
-props_from_length least = filter (λ p. nat_le least (length (prop_name p))) all_props
-
--- no property of the list has this name
-abbrev pub NoneHas : List StyleProp → List ℕ → Type 0
-NoneHas [] name = Unit {0}
-NoneHas (p ∷ ps) name = (prop_name p ≡ name → ⊥) × NoneHas ps name

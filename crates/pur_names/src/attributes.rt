@@ -1,8 +1,10 @@
 //! The attributes of XHTML 1.0 that the filter knows.
 
-ghost use Rattle.std.specs.Prelude.{◌≡◌, Some, IfSome, IfNone};
-ghost use Rattle.pur_names.specs.Attributes.{attr_name, attr_named};
+ghost use Rattle.std.specs.Prelude.{◌≡◌, length, ◌<◌, Some, IfSome, IfNone};
+ghost use Rattle.pur_names.specs.Attributes.{attr_name, attr_named, attr_place};
 ghost use Rattle.pur_names.specs.declared.attributes.Attr.{Attr};
+
+use std::fmt;
 
 /// An attribute of XHTML 1.0 that the filter reads or writes; `name` is known on input alone.
 ///
@@ -10,7 +12,7 @@ ghost use Rattle.pur_names.specs.declared.attributes.Attr.{Attr};
 /// `ListType` is `type`, and `XmlLang` is `xml:lang`.
 ///
 /// Source: XHTML 1.0, the attribute lists of the Strict and Transitional DTDs.
-#[derive(Clone, Copy, PartialEq, Eq, Debug)]
+#[derive(Clone, Copy, PartialEq, Eq)]
 pub enum Attr {
     Abbr,
     Align,
@@ -72,103 +74,220 @@ impl Attr {
     pub fn name(self) -> &'static str
         ensures { result.now ≡ attr_name self }
     {
-        match self {
-            Attr::Abbr => "abbr",
-            Attr::Align => "align",
-            Attr::Alt => "alt",
-            Attr::Bgcolor => "bgcolor",
-            Attr::Border => "border",
-            Attr::Cellpadding => "cellpadding",
-            Attr::Cellspacing => "cellspacing",
-            Attr::Cite => "cite",
-            Attr::Class => "class",
-            Attr::Clear => "clear",
-            Attr::Color => "color",
-            Attr::Colspan => "colspan",
-            Attr::Compact => "compact",
-            Attr::Dir => "dir",
-            Attr::Face => "face",
-            Attr::Frame => "frame",
-            Attr::Height => "height",
-            Attr::Href => "href",
-            Attr::Hspace => "hspace",
-            Attr::Id => "id",
-            Attr::Lang => "lang",
-            Attr::Longdesc => "longdesc",
-            Attr::Name => "name",
-            Attr::Noshade => "noshade",
-            Attr::Nowrap => "nowrap",
-            Attr::Rel => "rel",
-            Attr::Rowspan => "rowspan",
-            Attr::Rules => "rules",
-            Attr::Scope => "scope",
-            Attr::Size => "size",
-            Attr::Span => "span",
-            Attr::Src => "src",
-            Attr::Start => "start",
-            Attr::Style => "style",
-            Attr::Summary => "summary",
-            Attr::Target => "target",
-            Attr::Title => "title",
-            Attr::ListType => "type",
-            Attr::Valign => "valign",
-            Attr::Value => "value",
-            Attr::Vspace => "vspace",
-            Attr::Width => "width",
-            Attr::XmlLang => "xml:lang",
-        }
+        NAMES[self as usize]
     }
 }
 
-// The one whose name has these bytes: a match on bytes is a tree over lengths and letters.
+impl fmt::Debug for Attr {
+    fn fmt<W: fmt::Write>(&self, f: &mut fmt::Formatter<W>) -> fmt::Result {
+        f.write_str(self.name())
+    }
+}
+
+// The names, in the order of the variants.
+static NAMES: [&str; 43] = [
+    "abbr",
+    "align",
+    "alt",
+    "bgcolor",
+    "border",
+    "cellpadding",
+    "cellspacing",
+    "cite",
+    "class",
+    "clear",
+    "color",
+    "colspan",
+    "compact",
+    "dir",
+    "face",
+    "frame",
+    "height",
+    "href",
+    "hspace",
+    "id",
+    "lang",
+    "longdesc",
+    "name",
+    "noshade",
+    "nowrap",
+    "rel",
+    "rowspan",
+    "rules",
+    "scope",
+    "size",
+    "span",
+    "src",
+    "start",
+    "style",
+    "summary",
+    "target",
+    "title",
+    "type",
+    "valign",
+    "value",
+    "vspace",
+    "width",
+    "xml:lang",
+];
+
+// The attribute at each place of a table of 128; where no name has the place, some other one.
+static AT: [Attr; 128] = [
+    Attr::Abbr,
+    Attr::Abbr,
+    Attr::Abbr,
+    Attr::Abbr,
+    Attr::Width,
+    Attr::Rel,
+    Attr::Abbr,
+    Attr::Align,
+    Attr::Abbr,
+    Attr::Style,
+    Attr::Abbr,
+    Attr::Abbr,
+    Attr::Noshade,
+    Attr::Abbr,
+    Attr::Size,
+    Attr::Abbr,
+    Attr::Abbr,
+    Attr::Dir,
+    Attr::Abbr,
+    Attr::Abbr,
+    Attr::Abbr,
+    Attr::Height,
+    Attr::Abbr,
+    Attr::Abbr,
+    Attr::Abbr,
+    Attr::Abbr,
+    Attr::Abbr,
+    Attr::Abbr,
+    Attr::Abbr,
+    Attr::Abbr,
+    Attr::Abbr,
+    Attr::Abbr,
+    Attr::Abbr,
+    Attr::Abbr,
+    Attr::Abbr,
+    Attr::Abbr,
+    Attr::Alt,
+    Attr::Abbr,
+    Attr::Abbr,
+    Attr::Abbr,
+    Attr::Color,
+    Attr::Name,
+    Attr::Abbr,
+    Attr::Abbr,
+    Attr::Abbr,
+    Attr::Target,
+    Attr::Abbr,
+    Attr::Abbr,
+    Attr::Lang,
+    Attr::Abbr,
+    Attr::Abbr,
+    Attr::Valign,
+    Attr::Value,
+    Attr::Abbr,
+    Attr::Abbr,
+    Attr::Abbr,
+    Attr::Abbr,
+    Attr::Abbr,
+    Attr::Cellspacing,
+    Attr::Abbr,
+    Attr::Abbr,
+    Attr::Abbr,
+    Attr::Abbr,
+    Attr::Bgcolor,
+    Attr::Abbr,
+    Attr::Abbr,
+    Attr::XmlLang,
+    Attr::Scope,
+    Attr::Cite,
+    Attr::Abbr,
+    Attr::Abbr,
+    Attr::Frame,
+    Attr::Rules,
+    Attr::Abbr,
+    Attr::ListType,
+    Attr::Abbr,
+    Attr::Compact,
+    Attr::Hspace,
+    Attr::Abbr,
+    Attr::Abbr,
+    Attr::Src,
+    Attr::Cellpadding,
+    Attr::Abbr,
+    Attr::Face,
+    Attr::Abbr,
+    Attr::Colspan,
+    Attr::Abbr,
+    Attr::Abbr,
+    Attr::Abbr,
+    Attr::Abbr,
+    Attr::Id,
+    Attr::Abbr,
+    Attr::Abbr,
+    Attr::Class,
+    Attr::Abbr,
+    Attr::Abbr,
+    Attr::Abbr,
+    Attr::Summary,
+    Attr::Abbr,
+    Attr::Abbr,
+    Attr::Abbr,
+    Attr::Abbr,
+    Attr::Nowrap,
+    Attr::Href,
+    Attr::Title,
+    Attr::Vspace,
+    Attr::Longdesc,
+    Attr::Abbr,
+    Attr::Abbr,
+    Attr::Abbr,
+    Attr::Abbr,
+    Attr::Abbr,
+    Attr::Border,
+    Attr::Span,
+    Attr::Abbr,
+    Attr::Rowspan,
+    Attr::Abbr,
+    Attr::Abbr,
+    Attr::Abbr,
+    Attr::Clear,
+    Attr::Abbr,
+    Attr::Abbr,
+    Attr::Abbr,
+    Attr::Abbr,
+    Attr::Abbr,
+    Attr::Abbr,
+    Attr::Abbr,
+    Attr::Start,
+];
+
+// The place of a name in the table: by these numbers no two names have the same.
+fn place(name: &[u8]) -> usize
+    requires { 0 < length name.now }
+    ensures value { result ≡ attr_place name.now }
+    ensures within { result < 128 }
+{
+    let length = name.len();
+    let first = usize::from(name[0]);
+    let middle = usize::from(name[length / 2]);
+    let last = usize::from(name[length - 1]);
+    (2 * (length % 256) + 2 * first + 7 * middle + 2 * last) % 128
+}
+
+// The one whose name has these bytes: only the one at the name's place can have it.
 fn spelled(name: &[u8]) -> Option<Attr>
     ensures some { IfSome result (λ found. attr_name found ≡ name.now) }
     ensures none { IfNone result ((a : Attr) → attr_name a ≡ name.now → ⊥) }
 {
-    match name {
-        b"abbr" => Some(Attr::Abbr),
-        b"align" => Some(Attr::Align),
-        b"alt" => Some(Attr::Alt),
-        b"bgcolor" => Some(Attr::Bgcolor),
-        b"border" => Some(Attr::Border),
-        b"cellpadding" => Some(Attr::Cellpadding),
-        b"cellspacing" => Some(Attr::Cellspacing),
-        b"cite" => Some(Attr::Cite),
-        b"class" => Some(Attr::Class),
-        b"clear" => Some(Attr::Clear),
-        b"color" => Some(Attr::Color),
-        b"colspan" => Some(Attr::Colspan),
-        b"compact" => Some(Attr::Compact),
-        b"dir" => Some(Attr::Dir),
-        b"face" => Some(Attr::Face),
-        b"frame" => Some(Attr::Frame),
-        b"height" => Some(Attr::Height),
-        b"href" => Some(Attr::Href),
-        b"hspace" => Some(Attr::Hspace),
-        b"id" => Some(Attr::Id),
-        b"lang" => Some(Attr::Lang),
-        b"longdesc" => Some(Attr::Longdesc),
-        b"name" => Some(Attr::Name),
-        b"noshade" => Some(Attr::Noshade),
-        b"nowrap" => Some(Attr::Nowrap),
-        b"rel" => Some(Attr::Rel),
-        b"rowspan" => Some(Attr::Rowspan),
-        b"rules" => Some(Attr::Rules),
-        b"scope" => Some(Attr::Scope),
-        b"size" => Some(Attr::Size),
-        b"span" => Some(Attr::Span),
-        b"src" => Some(Attr::Src),
-        b"start" => Some(Attr::Start),
-        b"style" => Some(Attr::Style),
-        b"summary" => Some(Attr::Summary),
-        b"target" => Some(Attr::Target),
-        b"title" => Some(Attr::Title),
-        b"type" => Some(Attr::ListType),
-        b"valign" => Some(Attr::Valign),
-        b"value" => Some(Attr::Value),
-        b"vspace" => Some(Attr::Vspace),
-        b"width" => Some(Attr::Width),
-        b"xml:lang" => Some(Attr::XmlLang),
-        _ => None,
+    if name.is_empty() {
+        return None;
+    }
+    let found = AT[place(name)];
+    if found.name().as_bytes() == name {
+        Some(found)
+    } else {
+        None
     }
 }

@@ -1,8 +1,10 @@
 //! The properties of CSS 2.1 that the filter knows.
 
-ghost use Rattle.std.specs.Prelude.{◌≡◌, Some, IfSome, IfNone};
-ghost use Rattle.pur_names.specs.Properties.{prop_name, prop_named, props_by_length, props_from_length, NoneHas};
+ghost use Rattle.std.specs.Prelude.{◌≡◌, length, ◌<◌, Some, IfSome, IfNone};
+ghost use Rattle.pur_names.specs.Properties.{prop_name, prop_named, prop_place};
 ghost use Rattle.pur_names.specs.declared.properties.StyleProp.{StyleProp};
+
+use std::fmt;
 
 /// A property of CSS 2.1 that a `style` attribute may set.
 ///
@@ -10,7 +12,7 @@ ghost use Rattle.pur_names.specs.declared.properties.StyleProp.{StyleProp};
 ///
 /// Source: CSS 2.1, the property index, without positioning, generated content, aural and paged media, and the
 /// shorthands `background`, `font` and `list-style`.
-#[derive(Clone, Copy, PartialEq, Eq, Debug)]
+#[derive(Clone, Copy, PartialEq, Eq)]
 pub enum StyleProp {
     BackgroundAttachment,
     BackgroundColor,
@@ -77,183 +79,239 @@ impl StyleProp {
         ensures none { IfNone result ((p : StyleProp) → prop_name p ≡ name.now → ⊥) }
         ensures inverse { (p : StyleProp) → prop_name p ≡ name.now → result ≡ Some p }
     {
-        spelled(name)
+        spelled(name.as_bytes())
     }
 
     /// The property's name in lower case, as a declaration spells it.
     pub fn name(self) -> &'static str
         ensures { result.now ≡ prop_name self }
     {
-        match self {
-            StyleProp::BackgroundAttachment => "background-attachment",
-            StyleProp::BackgroundColor => "background-color",
-            StyleProp::BackgroundImage => "background-image",
-            StyleProp::BackgroundRepeat => "background-repeat",
-            StyleProp::Border => "border",
-            StyleProp::BorderBottomColor => "border-bottom-color",
-            StyleProp::BorderBottomStyle => "border-bottom-style",
-            StyleProp::BorderBottomWidth => "border-bottom-width",
-            StyleProp::BorderCollapse => "border-collapse",
-            StyleProp::BorderColor => "border-color",
-            StyleProp::BorderLeftColor => "border-left-color",
-            StyleProp::BorderLeftStyle => "border-left-style",
-            StyleProp::BorderLeftWidth => "border-left-width",
-            StyleProp::BorderRightColor => "border-right-color",
-            StyleProp::BorderRightStyle => "border-right-style",
-            StyleProp::BorderRightWidth => "border-right-width",
-            StyleProp::BorderStyle => "border-style",
-            StyleProp::BorderTopColor => "border-top-color",
-            StyleProp::BorderTopStyle => "border-top-style",
-            StyleProp::BorderTopWidth => "border-top-width",
-            StyleProp::BorderWidth => "border-width",
-            StyleProp::CaptionSide => "caption-side",
-            StyleProp::Clear => "clear",
-            StyleProp::Color => "color",
-            StyleProp::Float => "float",
-            StyleProp::FontFamily => "font-family",
-            StyleProp::FontSize => "font-size",
-            StyleProp::FontStyle => "font-style",
-            StyleProp::FontVariant => "font-variant",
-            StyleProp::FontWeight => "font-weight",
-            StyleProp::Height => "height",
-            StyleProp::LetterSpacing => "letter-spacing",
-            StyleProp::LineHeight => "line-height",
-            StyleProp::ListStyleImage => "list-style-image",
-            StyleProp::ListStylePosition => "list-style-position",
-            StyleProp::ListStyleType => "list-style-type",
-            StyleProp::Margin => "margin",
-            StyleProp::MarginBottom => "margin-bottom",
-            StyleProp::MarginLeft => "margin-left",
-            StyleProp::MarginRight => "margin-right",
-            StyleProp::MarginTop => "margin-top",
-            StyleProp::Padding => "padding",
-            StyleProp::PaddingBottom => "padding-bottom",
-            StyleProp::PaddingLeft => "padding-left",
-            StyleProp::PaddingRight => "padding-right",
-            StyleProp::PaddingTop => "padding-top",
-            StyleProp::TableLayout => "table-layout",
-            StyleProp::TextAlign => "text-align",
-            StyleProp::TextDecoration => "text-decoration",
-            StyleProp::TextIndent => "text-indent",
-            StyleProp::TextTransform => "text-transform",
-            StyleProp::VerticalAlign => "vertical-align",
-            StyleProp::WhiteSpace => "white-space",
-            StyleProp::Width => "width",
-            StyleProp::WordSpacing => "word-spacing",
-        }
+        NAMES[self as usize]
     }
 }
 
-// The property with this name. The table is cut by length, so that no look-up tests more than a dozen and a few texts.
-fn spelled(name: &str) -> Option<StyleProp>
+impl fmt::Debug for StyleProp {
+    fn fmt<W: fmt::Write>(&self, f: &mut fmt::Formatter<W>) -> fmt::Result {
+        f.write_str(self.name())
+    }
+}
+
+// The names, in the order of the variants.
+static NAMES: [&str; 55] = [
+    "background-attachment",
+    "background-color",
+    "background-image",
+    "background-repeat",
+    "border",
+    "border-bottom-color",
+    "border-bottom-style",
+    "border-bottom-width",
+    "border-collapse",
+    "border-color",
+    "border-left-color",
+    "border-left-style",
+    "border-left-width",
+    "border-right-color",
+    "border-right-style",
+    "border-right-width",
+    "border-style",
+    "border-top-color",
+    "border-top-style",
+    "border-top-width",
+    "border-width",
+    "caption-side",
+    "clear",
+    "color",
+    "float",
+    "font-family",
+    "font-size",
+    "font-style",
+    "font-variant",
+    "font-weight",
+    "height",
+    "letter-spacing",
+    "line-height",
+    "list-style-image",
+    "list-style-position",
+    "list-style-type",
+    "margin",
+    "margin-bottom",
+    "margin-left",
+    "margin-right",
+    "margin-top",
+    "padding",
+    "padding-bottom",
+    "padding-left",
+    "padding-right",
+    "padding-top",
+    "table-layout",
+    "text-align",
+    "text-decoration",
+    "text-indent",
+    "text-transform",
+    "vertical-align",
+    "white-space",
+    "width",
+    "word-spacing",
+];
+
+// The property at each place of a table of 128; where no name has the place, some other one.
+static AT: [StyleProp; 128] = [
+    StyleProp::BackgroundAttachment,
+    StyleProp::MarginBottom,
+    StyleProp::TextTransform,
+    StyleProp::BorderRightColor,
+    StyleProp::BackgroundAttachment,
+    StyleProp::LineHeight,
+    StyleProp::BackgroundAttachment,
+    StyleProp::MarginRight,
+    StyleProp::BackgroundAttachment,
+    StyleProp::BackgroundAttachment,
+    StyleProp::BackgroundAttachment,
+    StyleProp::BackgroundAttachment,
+    StyleProp::BackgroundAttachment,
+    StyleProp::BackgroundAttachment,
+    StyleProp::BackgroundAttachment,
+    StyleProp::BorderTopWidth,
+    StyleProp::BackgroundAttachment,
+    StyleProp::BackgroundAttachment,
+    StyleProp::Padding,
+    StyleProp::BackgroundAttachment,
+    StyleProp::BorderStyle,
+    StyleProp::BackgroundAttachment,
+    StyleProp::BackgroundAttachment,
+    StyleProp::BackgroundAttachment,
+    StyleProp::BackgroundAttachment,
+    StyleProp::BackgroundAttachment,
+    StyleProp::FontFamily,
+    StyleProp::BackgroundAttachment,
+    StyleProp::BackgroundAttachment,
+    StyleProp::BorderRightWidth,
+    StyleProp::BackgroundAttachment,
+    StyleProp::WhiteSpace,
+    StyleProp::BackgroundAttachment,
+    StyleProp::BackgroundAttachment,
+    StyleProp::BackgroundAttachment,
+    StyleProp::BackgroundAttachment,
+    StyleProp::TableLayout,
+    StyleProp::BackgroundAttachment,
+    StyleProp::BackgroundAttachment,
+    StyleProp::BackgroundAttachment,
+    StyleProp::Clear,
+    StyleProp::FontVariant,
+    StyleProp::BackgroundAttachment,
+    StyleProp::BackgroundAttachment,
+    StyleProp::BackgroundAttachment,
+    StyleProp::TextAlign,
+    StyleProp::BackgroundAttachment,
+    StyleProp::BackgroundAttachment,
+    StyleProp::Border,
+    StyleProp::MarginLeft,
+    StyleProp::Float,
+    StyleProp::BorderLeftStyle,
+    StyleProp::BorderBottomStyle,
+    StyleProp::BackgroundAttachment,
+    StyleProp::BackgroundAttachment,
+    StyleProp::WordSpacing,
+    StyleProp::BackgroundAttachment,
+    StyleProp::BackgroundRepeat,
+    StyleProp::MarginTop,
+    StyleProp::BackgroundAttachment,
+    StyleProp::BackgroundAttachment,
+    StyleProp::BackgroundAttachment,
+    StyleProp::TextDecoration,
+    StyleProp::BorderColor,
+    StyleProp::BackgroundAttachment,
+    StyleProp::Height,
+    StyleProp::BackgroundAttachment,
+    StyleProp::BackgroundAttachment,
+    StyleProp::ListStylePosition,
+    StyleProp::BackgroundImage,
+    StyleProp::PaddingBottom,
+    StyleProp::ListStyleImage,
+    StyleProp::BackgroundAttachment,
+    StyleProp::BackgroundAttachment,
+    StyleProp::BorderTopStyle,
+    StyleProp::Color,
+    StyleProp::BackgroundAttachment,
+    StyleProp::BackgroundAttachment,
+    StyleProp::BackgroundAttachment,
+    StyleProp::BackgroundAttachment,
+    StyleProp::BackgroundAttachment,
+    StyleProp::BackgroundAttachment,
+    StyleProp::BackgroundAttachment,
+    StyleProp::PaddingLeft,
+    StyleProp::BackgroundAttachment,
+    StyleProp::Width,
+    StyleProp::BackgroundAttachment,
+    StyleProp::BackgroundAttachment,
+    StyleProp::BorderRightStyle,
+    StyleProp::BorderWidth,
+    StyleProp::BackgroundAttachment,
+    StyleProp::BackgroundAttachment,
+    StyleProp::BackgroundAttachment,
+    StyleProp::BackgroundAttachment,
+    StyleProp::BorderLeftColor,
+    StyleProp::BorderBottomColor,
+    StyleProp::BackgroundAttachment,
+    StyleProp::BackgroundAttachment,
+    StyleProp::LetterSpacing,
+    StyleProp::BackgroundAttachment,
+    StyleProp::BackgroundAttachment,
+    StyleProp::BackgroundAttachment,
+    StyleProp::BackgroundAttachment,
+    StyleProp::CaptionSide,
+    StyleProp::BackgroundAttachment,
+    StyleProp::BackgroundAttachment,
+    StyleProp::BackgroundAttachment,
+    StyleProp::BackgroundAttachment,
+    StyleProp::VerticalAlign,
+    StyleProp::ListStyleType,
+    StyleProp::PaddingRight,
+    StyleProp::BackgroundAttachment,
+    StyleProp::BackgroundColor,
+    StyleProp::BackgroundAttachment,
+    StyleProp::BackgroundAttachment,
+    StyleProp::BorderCollapse,
+    StyleProp::FontStyle,
+    StyleProp::BorderTopColor,
+    StyleProp::BackgroundAttachment,
+    StyleProp::BackgroundAttachment,
+    StyleProp::BorderLeftWidth,
+    StyleProp::BorderBottomWidth,
+    StyleProp::TextIndent,
+    StyleProp::FontSize,
+    StyleProp::FontWeight,
+    StyleProp::Margin,
+    StyleProp::BackgroundAttachment,
+    StyleProp::PaddingTop,
+];
+
+// The place of a name in the table: by these numbers no two names have the same.
+fn place(name: &[u8]) -> usize
+    requires { 0 < length name.now }
+    ensures value { result ≡ prop_place name.now }
+    ensures within { result < 128 }
+{
+    let length = name.len();
+    let first = usize::from(name[0]);
+    let middle = usize::from(name[length / 2]);
+    let last = usize::from(name[length - 1]);
+    (27 * (length % 256) + 14 * first + 5 * middle + 23 * last) % 128
+}
+
+// The one whose name has these bytes: only the one at the name's place can have it.
+fn spelled(name: &[u8]) -> Option<StyleProp>
     ensures some { IfSome result (λ found. prop_name found ≡ name.now) }
     ensures none { IfNone result ((p : StyleProp) → prop_name p ≡ name.now → ⊥) }
 {
-    match name.len() {
-        0..=10 => up_to_10_bytes(name),
-        11 | 12 => of_11_or_12_bytes(name),
-        13..=15 => of_13_to_15_bytes(name),
-        16 | 17 => of_16_or_17_bytes(name),
-        _ => of_18_or_more_bytes(name),
+    if name.is_empty() {
+        return None;
     }
-}
-
-fn up_to_10_bytes(name: &str) -> Option<StyleProp>
-    ensures some { IfSome result (λ found. prop_name found ≡ name.now) }
-    ensures none { IfNone result (NoneHas (props_by_length 0 10) name.now) }
-{
-    match name {
-        "border" => Some(StyleProp::Border),
-        "clear" => Some(StyleProp::Clear),
-        "color" => Some(StyleProp::Color),
-        "float" => Some(StyleProp::Float),
-        "font-size" => Some(StyleProp::FontSize),
-        "font-style" => Some(StyleProp::FontStyle),
-        "height" => Some(StyleProp::Height),
-        "margin" => Some(StyleProp::Margin),
-        "margin-top" => Some(StyleProp::MarginTop),
-        "padding" => Some(StyleProp::Padding),
-        "text-align" => Some(StyleProp::TextAlign),
-        "width" => Some(StyleProp::Width),
-        _ => None,
-    }
-}
-
-fn of_11_or_12_bytes(name: &str) -> Option<StyleProp>
-    ensures some { IfSome result (λ found. prop_name found ≡ name.now) }
-    ensures none { IfNone result (NoneHas (props_by_length 11 12) name.now) }
-{
-    match name {
-        "border-color" => Some(StyleProp::BorderColor),
-        "border-style" => Some(StyleProp::BorderStyle),
-        "border-width" => Some(StyleProp::BorderWidth),
-        "caption-side" => Some(StyleProp::CaptionSide),
-        "font-family" => Some(StyleProp::FontFamily),
-        "font-variant" => Some(StyleProp::FontVariant),
-        "font-weight" => Some(StyleProp::FontWeight),
-        "line-height" => Some(StyleProp::LineHeight),
-        "margin-left" => Some(StyleProp::MarginLeft),
-        "margin-right" => Some(StyleProp::MarginRight),
-        "padding-left" => Some(StyleProp::PaddingLeft),
-        "padding-top" => Some(StyleProp::PaddingTop),
-        "table-layout" => Some(StyleProp::TableLayout),
-        "text-indent" => Some(StyleProp::TextIndent),
-        "white-space" => Some(StyleProp::WhiteSpace),
-        "word-spacing" => Some(StyleProp::WordSpacing),
-        _ => None,
-    }
-}
-
-fn of_13_to_15_bytes(name: &str) -> Option<StyleProp>
-    ensures some { IfSome result (λ found. prop_name found ≡ name.now) }
-    ensures none { IfNone result (NoneHas (props_by_length 13 15) name.now) }
-{
-    match name {
-        "border-collapse" => Some(StyleProp::BorderCollapse),
-        "letter-spacing" => Some(StyleProp::LetterSpacing),
-        "list-style-type" => Some(StyleProp::ListStyleType),
-        "margin-bottom" => Some(StyleProp::MarginBottom),
-        "padding-bottom" => Some(StyleProp::PaddingBottom),
-        "padding-right" => Some(StyleProp::PaddingRight),
-        "text-decoration" => Some(StyleProp::TextDecoration),
-        "text-transform" => Some(StyleProp::TextTransform),
-        "vertical-align" => Some(StyleProp::VerticalAlign),
-        _ => None,
-    }
-}
-
-fn of_16_or_17_bytes(name: &str) -> Option<StyleProp>
-    ensures some { IfSome result (λ found. prop_name found ≡ name.now) }
-    ensures none { IfNone result (NoneHas (props_by_length 16 17) name.now) }
-{
-    match name {
-        "background-color" => Some(StyleProp::BackgroundColor),
-        "background-image" => Some(StyleProp::BackgroundImage),
-        "background-repeat" => Some(StyleProp::BackgroundRepeat),
-        "border-left-color" => Some(StyleProp::BorderLeftColor),
-        "border-left-style" => Some(StyleProp::BorderLeftStyle),
-        "border-left-width" => Some(StyleProp::BorderLeftWidth),
-        "border-top-color" => Some(StyleProp::BorderTopColor),
-        "border-top-style" => Some(StyleProp::BorderTopStyle),
-        "border-top-width" => Some(StyleProp::BorderTopWidth),
-        "list-style-image" => Some(StyleProp::ListStyleImage),
-        _ => None,
-    }
-}
-
-fn of_18_or_more_bytes(name: &str) -> Option<StyleProp>
-    ensures some { IfSome result (λ found. prop_name found ≡ name.now) }
-    ensures none { IfNone result (NoneHas (props_from_length 18) name.now) }
-{
-    match name {
-        "background-attachment" => Some(StyleProp::BackgroundAttachment),
-        "border-bottom-color" => Some(StyleProp::BorderBottomColor),
-        "border-bottom-style" => Some(StyleProp::BorderBottomStyle),
-        "border-bottom-width" => Some(StyleProp::BorderBottomWidth),
-        "border-right-color" => Some(StyleProp::BorderRightColor),
-        "border-right-style" => Some(StyleProp::BorderRightStyle),
-        "border-right-width" => Some(StyleProp::BorderRightWidth),
-        "list-style-position" => Some(StyleProp::ListStylePosition),
-        _ => None,
+    let found = AT[place(name)];
+    if found.name().as_bytes() == name {
+        Some(found)
+    } else {
+        None
     }
 }

@@ -28,7 +28,7 @@ impl SchemeName {
         ensures none { IfNone result ((s : SchemeName) → scheme_name s ≡ name.now → ⊥) }
         ensures inverse { (s : SchemeName) → scheme_name s ≡ name.now → result ≡ Some s }
     {
-        spelled(name.as_bytes())
+        spelled(name)
     }
 
     /// The scheme's name in lower case, without the colon.
@@ -47,19 +47,19 @@ impl SchemeName {
     }
 }
 
-// The one whose name has these bytes: a match on bytes is a tree over lengths and letters.
-fn spelled(name: &[u8]) -> Option<SchemeName>
+// The one with this name: a short list of texts is read as fast as a tree over letters.
+fn spelled(name: &str) -> Option<SchemeName>
     ensures some { IfSome result (λ found. scheme_name found ≡ name.now) }
     ensures none { IfNone result ((s : SchemeName) → scheme_name s ≡ name.now → ⊥) }
 {
     match name {
-        b"http" => Some(SchemeName::Http),
-        b"https" => Some(SchemeName::Https),
-        b"ftp" => Some(SchemeName::Ftp),
-        b"mailto" => Some(SchemeName::Mailto),
-        b"nntp" => Some(SchemeName::Nntp),
-        b"news" => Some(SchemeName::News),
-        b"tel" => Some(SchemeName::Tel),
+        "http" => Some(SchemeName::Http),
+        "https" => Some(SchemeName::Https),
+        "ftp" => Some(SchemeName::Ftp),
+        "mailto" => Some(SchemeName::Mailto),
+        "nntp" => Some(SchemeName::Nntp),
+        "news" => Some(SchemeName::News),
+        "tel" => Some(SchemeName::Tel),
         _ => None,
     }
 }

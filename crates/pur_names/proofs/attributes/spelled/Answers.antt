@@ -1,48 +1,11 @@
--- The two longest names: the bytes that the match read are all of them.
-use Rattle.std.proofs.Common.{codes, sym, arith}
-use Rattle.std.proofs.lemmas.Slice.Eq.{text_from_reads}
+-- Only the one at the name's place can have the name, and the test said that it has another.
+use Rattle.pur_names.proofs.Placed.{absent}
+use Rattle.pur_names.proofs.AttrLaws.{placed_attrs, attr-placed}
+use Rattle.pur_names.specs.Attributes.{attr_name, attr_place}
+use Rattle.pur_names.specs.declared.attributes.Attr.TheVariants.{Abbr}
 use Rattle.pur_names.proofs.attributes.spelled.Goals as goal
 
-pub returns-in-cellpadding-clause-some : goal.returns-in-cellpadding-clause-some
-returns-in-cellpadding-clause-some c =
-    sym (text_from_reads c.args.name.now (codes "cellpadding") (omega arith) (
-      omega arith,
-      (
-        omega arith,
-        (
-          omega arith,
-          (
-            omega arith,
-            (
-              omega arith,
-              (
-                omega arith,
-                (omega arith, (omega arith, (omega arith, (omega arith, (omega arith, tt))))),
-              ),
-            ),
-          ),
-        ),
-      ),
-    ))
-
-pub returns-in-cellspacing-clause-some : goal.returns-in-cellspacing-clause-some
-returns-in-cellspacing-clause-some c =
-    sym (text_from_reads c.args.name.now (codes "cellspacing") (omega arith) (
-      omega arith,
-      (
-        omega arith,
-        (
-          omega arith,
-          (
-            omega arith,
-            (
-              omega arith,
-              (
-                omega arith,
-                (omega arith, (omega arith, (omega arith, (omega arith, (omega arith, tt))))),
-              ),
-            ),
-          ),
-        ),
-      ),
-    ))
+pub returns-else-eq-clause-none : goal.returns-else-eq-clause-none
+returns-else-eq-clause-none c =
+    absent attr_name attr_place placed_attrs Abbr attr-placed c.args.name.now c.place.result
+    c.name.result.now c.as_bytes.result.now c.eq.result c.place.ensures.value c.name.ensures c.as_bytes.ensures.value c.eq.ensures c.if-eq.false
