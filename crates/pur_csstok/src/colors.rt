@@ -1,11 +1,11 @@
 //! Colours.
-ghost use Rattle.std.specs.Prelude.{◌≡◌, ◌++◌, ◌∷◌, ◌≤◌, ◌<◌, ◌*◌, ◌+◌, if◌then◌else◌, Some, None, IfNone, [], drop, min, codes, IsTrue, IfOk, IfSome, OnOk, option_map, string_bytes};
+ghost use Rattle.std.specs.Prelude.{◌≡◌, ◌++◌, ◌∷◌, ◌≤◌, ◌<◌, ◌*◌, ◌+◌, if◌then◌else◌, Some, None, IfNone, [], drop, min, map, codes, IsTrue, IfOk, IfSome, OnOk, option_map, string_bytes};
 ghost use Rattle.std.specs.Char.{digit_char, digit_value};
 ghost use Rattle.std.specs.List.{list_all, flat_map};
 ghost use Rattle.std.specs.Str.{IsUtf8, bytes_eq, chars};
 ghost use Rattle.std.specs.Str.Parse.{digits_value};
 ghost use Rattle.pur_csstok.specs.Numbers.{is_digit};
-ghost use Rattle.pur_csstok.specs.Colors.{is_hex_digit, is_hash, twice, six_digits, hash_read, color_named, is_part, part_value, two_digits, parts_read, between_commas, rgb_read, lowered_read, color_read};
+ghost use Rattle.pur_csstok.specs.Colors.{is_hex_digit, is_hash, twice, six_digits, hash_read, color_named, color_in, is_part, part_value, two_digits, parts_read, between_commas, rgb_read, lowered_read, color_read};
 ghost use Rattle.pur_text.specs.Texts.{text_of};
 
 use crate::digits::are_digits;
@@ -141,31 +141,45 @@ fn name_read(alloc: Global, name: &str) -> Result<Option<String>, AllocError>
     }
 }
 
+/// The colours that have a name, in the order of CSS 2.1.
+static NAMED: [(&str, &str); 17] = [
+    ("maroon", "#800000"),
+    ("red", "#ff0000"),
+    ("orange", "#ffa500"),
+    ("yellow", "#ffff00"),
+    ("olive", "#808000"),
+    ("purple", "#800080"),
+    ("fuchsia", "#ff00ff"),
+    ("white", "#ffffff"),
+    ("lime", "#00ff00"),
+    ("green", "#008000"),
+    ("navy", "#000080"),
+    ("blue", "#0000ff"),
+    ("aqua", "#00ffff"),
+    ("teal", "#008080"),
+    ("black", "#000000"),
+    ("silver", "#c0c0c0"),
+    ("gray", "#808080"),
+];
+
 /// The colour with this name.
 #[tactic(auto, unfolding(crate::specs::Colors::color_named))]
 fn color_named(name: &str) -> Option<&'static str>
     ensures { option_map (λ color. color.now) result ≡ color_named name.now }
 {
-    match name {
-        "maroon" => Some("#800000"),
-        "red" => Some("#ff0000"),
-        "orange" => Some("#ffa500"),
-        "yellow" => Some("#ffff00"),
-        "olive" => Some("#808000"),
-        "purple" => Some("#800080"),
-        "fuchsia" => Some("#ff00ff"),
-        "white" => Some("#ffffff"),
-        "lime" => Some("#00ff00"),
-        "green" => Some("#008000"),
-        "navy" => Some("#000080"),
-        "blue" => Some("#0000ff"),
-        "aqua" => Some("#00ffff"),
-        "teal" => Some("#008080"),
-        "black" => Some("#000000"),
-        "silver" => Some("#c0c0c0"),
-        "gray" => Some("#808080"),
-        _ => None,
+    color_in(&NAMED, name)
+}
+
+/// The colour of the first row that has the name.
+fn color_in(table: &'static [(&'static str, &'static str)], name: &str) -> Option<&'static str>
+    ensures { option_map (λ color. color.now) result ≡ color_in (map (λ row. (row.0.now, row.1.now)) table.now) name.now }
+{
+    for row in table {
+        if name == row.0 {
+            return Some(row.1);
+        }
     }
+    None
 }
 
 #[tactic(auto, unfolding(crate::specs::Colors::rgb_read))]

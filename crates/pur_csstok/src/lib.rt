@@ -25,6 +25,3 @@ pub use laws::{
 pub use lengths::read_length;
 pub use numbers::read_number;
 pub use urls::read_url;
-
-#[cfg(test)]
-mod tests;

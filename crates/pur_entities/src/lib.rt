@@ -5,8 +5,6 @@
 mod entities;
 mod laws;
 mod references;
-#[cfg(test)]
-mod tests;
 
 pub use entities::lookup;
 pub use laws::{

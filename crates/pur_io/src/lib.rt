@@ -12,8 +12,6 @@ mod mem_sink;
 mod std_sink;
 mod sure_shelf;
 mod sure_sink;
-#[cfg(test)]
-mod tests;
 mod text_list;
 mod traits;
 

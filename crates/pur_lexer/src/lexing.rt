@@ -1,5 +1,5 @@
 //! The tokens of a text.
-ghost use Rattle.std.specs.Prelude.{◌≡◌, ◌<◌, ◌∷◌, ◌++◌, [], List, filter, length, map, not, IfOk, OnErr, IfSome, IfNone};
+ghost use Rattle.std.specs.Prelude.{◌≡◌, ◌<◌, ◌∷◌, ◌++◌, [], List, filter, length, map, not, IfOk, OnOk, OnErr, IfSome, IfNone};
 ghost use Rattle.std.specs.Str.{chars};
 ghost use Rattle.pur_tokens.specs.Joining.{joined, held_before, tokens_given, is_some_token};
 ghost use Rattle.pur_tokens.specs.Tokens.{PlainToken, plain_token};
@@ -24,10 +24,18 @@ pub fn lex(alloc: Global, text: &str) -> Result<Vec<Token>, AllocError>
 {
     let mut lexer = Lexer::new(alloc, text);
     let mut tokens = Vec::new(alloc);
+    read_all(&mut lexer, &mut tokens)?;
+    Ok(tokens)
+}
+
+// Puts the tokens that a lexer has left behind others.
+fn read_all(lexer: &mut Lexer, tokens: &mut Vec<Token>) -> Result<(), AllocError>
+    ensures { OnOk result (map plain_token tokens.new.items ≡ map plain_token tokens.old.items ++ lexer.old) }
+{
     'reading: while let Some(token) = lexer.next()? {
         tokens.push(token)?;
     }
-    Ok(tokens)
+    Ok(())
 }
 
 /// Gives the tokens of a text one at a time, as `lex` gives them all.

@@ -14,8 +14,6 @@ mod pushing;
 mod roles;
 mod settled;
 mod tables;
-#[cfg(test)]
-mod tests;
 
 pub use laws::{
     gives_a_word, gives_words, is_settling, joins_texts, keeps_allowed, keeps_counts,

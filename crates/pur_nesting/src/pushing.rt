@@ -9,7 +9,16 @@ use pur_tokens::AttrList;
 use pur_tree::{Elem, Node, push_elem};
 use std::alloc::{AllocError, Global};
 
-/// Moves nodes behind others.
+/// Moves nodes behind others, and leaves none where they were.
+pub fn move_all(out: &mut Vec<Node>, nodes: &mut Vec<Node>) -> Result<(), AllocError>
+    ensures { OnOk result ((more : Nodes) → nodes_append (nodes_of out.new.items) more
+        ≡ nodes_append (nodes_of out.old.items) (nodes_append (nodes_of nodes.old.items) more)) }
+{
+    out.append(nodes)?;
+    Ok(())
+}
+
+/// Puts nodes behind others.
 pub fn push_all(out: &mut Vec<Node>, mut nodes: Vec<Node>) -> Result<(), AllocError>
     ensures { OnOk result ((more : Nodes) → nodes_append (nodes_of out.new.items) more
         ≡ nodes_append (nodes_of out.old.items) (nodes_append (nodes_of nodes.items) more)) }

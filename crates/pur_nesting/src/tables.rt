@@ -5,13 +5,13 @@ ghost use Rattle.std.specs.Str.{chars};
 ghost use Rattle.pur_text.specs.Characters.{is_blank};
 ghost use Rattle.pur_tree.specs.Image.{nodes_of, node_before};
 ghost use Rattle.pur_tree.specs.Nodes.{plain_elem, Nodes, no_nodes, elem_first, nodes_append, has_no_nodes};
-ghost use Rattle.pur_nesting.specs.Private.Grouping.{stack};
-ghost use Rattle.pur_nesting.specs.Tables.{are_blank, as_bodies, table, table_of_parts, paragraph_of, without_bodies, repaired_table};
+ghost use Rattle.pur_nesting.specs.Private.Grouping.{before_bodies, stack};
+ghost use Rattle.pur_nesting.specs.Tables.{are_blank, as_bodies, of_one_kind, table, table_of_parts, paragraph_of, without_bodies, repaired_table};
 
 use crate::bodies::{as_bodies, of_one_kind};
 use crate::parts::{Parts, grouped};
 use crate::permits::Permits;
-use crate::pushing::{bare, chained, push_all, single, without_slack};
+use crate::pushing::{bare, chained, move_all, single, without_slack};
 use pur_names::Element;
 use pur_text::is_space;
 use pur_tokens::AttrList;
@@ -25,30 +25,13 @@ fn table(
     permits: Permits,
     name: Element,
     attrs: AttrList,
-    parts: Parts,
+    mut parts: Parts,
 ) -> Result<Vec<Node>, AllocError>
     ensures { IfOk result (λ out. nodes_of out.items ≡ table (plain_elem name attrs)
         (nodes_of parts.lead.items) (nodes_of parts.captions.items) (nodes_of parts.columns.items)
         (nodes_of parts.heads.items) (nodes_of parts.feet.items) (as_bodies permits.tbody (nodes_of parts.bodies.items))) }
 {
-    let Parts {
-        lead,
-        captions,
-        columns,
-        heads,
-        feet,
-        bodies,
-        ..
-    } = parts;
-    let bodies = as_bodies(alloc, permits.tbody, bodies)?;
-    let bodies = of_one_kind(alloc, bodies)?;
-    let mut children = lead;
-    push_all(&mut children, captions)?;
-    push_all(&mut children, columns)?;
-    push_all(&mut children, heads)?;
-    push_all(&mut children, feet)?;
-    let all = chained(children, bodies)?;
-    let children = without_slack(all);
+    let children = in_order(alloc, permits.tbody, &mut parts)?;
     single(
         alloc,
         Elem {
@@ -57,6 +40,34 @@ fn table(
             children,
         },
     )
+}
+
+// The parts of a table one behind another, moved out of where they were; heads and feet among the bodies become bodies.
+fn in_order(alloc: Global, tbody: bool, parts: &mut Parts) -> Result<Vec<Node>, AllocError>
+    ensures { IfOk result (λ out. nodes_of out.items ≡ nodes_append (nodes_of parts.old.lead.items)
+        (before_bodies (nodes_of parts.old.captions.items) (nodes_of parts.old.columns.items) (nodes_of parts.old.heads.items) (nodes_of parts.old.feet.items)
+        (of_one_kind (as_bodies tbody (nodes_of parts.old.bodies.items))))) }
+{
+    let bodies = mem::replace(&mut parts.bodies, Vec::new(alloc));
+    let bodies = as_bodies(alloc, tbody, bodies)?;
+    let bodies = of_one_kind(alloc, bodies)?;
+    let mut children = mem::replace(&mut parts.lead, Vec::new(alloc));
+    put_between(&mut children, parts)?;
+    let all = chained(children, bodies)?;
+    Ok(without_slack(all))
+}
+
+// Moves the parts that stand between a table's lead and its bodies behind other nodes.
+fn put_between(out: &mut Vec<Node>, parts: &mut Parts) -> Result<(), AllocError>
+    ensures { OnOk result ((more : Nodes) → nodes_append (nodes_of out.new.items) more
+        ≡ nodes_append (nodes_of out.old.items)
+        (before_bodies (nodes_of parts.old.captions.items) (nodes_of parts.old.columns.items) (nodes_of parts.old.heads.items) (nodes_of parts.old.feet.items) more)) }
+{
+    move_all(out, &mut parts.captions)?;
+    move_all(out, &mut parts.columns)?;
+    move_all(out, &mut parts.heads)?;
+    move_all(out, &mut parts.feet)?;
+    Ok(())
 }
 
 /// A table of its parts; where there are no bodies the foot becomes the body, and where there is no foot the head.

@@ -12,8 +12,6 @@ mod property_table;
 mod reading;
 mod scheme_table;
 mod site_settings;
-#[cfg(test)]
-mod tests;
 
 pub use faults::SettingsFault;
 pub use site_settings::Settings;

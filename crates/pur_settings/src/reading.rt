@@ -1,6 +1,6 @@
 //! Reading settings out of a TOML table, key by key.
 
-ghost use Rattle.std.specs.Prelude.{◌≡◌, ◌≢◌, pos, Ok, Err, IfOk, IfErr, OnOk, IsTrue, map, string_bytes};
+ghost use Rattle.std.specs.Prelude.{◌≡◌, ◌≢◌, pos, true, Ok, Err, IfOk, IfErr, OnOk, IsTrue, map, string_bytes};
 ghost use Rattle.std.specs.List.{list_all};
 ghost use Rattle.std.specs.Option.{ok_or};
 ghost use Rattle.std.specs.Ordering.{int_eq};
@@ -10,8 +10,8 @@ ghost use Rattle.pur_text.specs.Hosts.{is_host};
 ghost use Rattle.pur_names.specs.Properties.{prop_named};
 ghost use Rattle.pur_names.specs.Schemes.{scheme_named};
 ghost use Rattle.pur_settings.specs.Prefixes.{is_id_prefix};
-ghost use Rattle.pur_settings.specs.Private.Walk.{Ascends, with_all, with_member};
-ghost use Rattle.pur_settings.specs.Reading.{reading_map, truth_in, text_in, list_in, number_in};
+ghost use Rattle.pur_settings.specs.Private.Walk.{Ascends, with_all, with_member, with_members};
+ghost use Rattle.pur_settings.specs.Reading.{and_then, reading_map, truth_in, text_in, list_in, number_in};
 ghost use Rattle.pur_settings.specs.Rules.{is_for_fragments};
 ghost use Rattle.pur_settings.specs.Settings.{doctype_in, settings_in, unless_conflict};
 ghost use Rattle.pur_settings.specs.Table.{attribute_of, attributes_in_order, content_in_parent, doctype_named, element_of, host_named, in_order, prefix_named, properties_in_order, schemes_in_order, table_for};
@@ -39,28 +39,42 @@ pub(crate) fn read_table(alloc: Global, table: &Table) -> Result<Settings, Setti
     read_members(alloc, table, doctype)
 }
 
-// The settings with the value of each member, one after another in the order of their keys' bytes, which is the table's
-// own. What the value of one key depends on beside itself was looked up before. That other hosts may not be reached is
-// kept aside until the site's own is known.
+// The settings with the value of each member. What the value of one key depends on beside itself was looked up before.
 fn read_members(alloc: Global, table: &Table, doctype: Doctype) -> Result<Settings, SettingsFault>
     ensures ok { IfOk result (λ settings. with_all (table_for doctype) (table_view table.now) ≡ Ok settings) }
     ensures err { IfErr result (λ fault. fault ≢ SettingsFault.Memory → with_all (table_for doctype) (table_view table.now) ≡ Err fault) }
     ensures ordered { Ascends (table_view table.now) }
 {
     let mut settings = Settings::defaults();
+    put_members(alloc, &mut settings, table, doctype)?;
+    Ok(settings)
+}
+
+// Puts in the value of each member, one after another in the order of their keys' bytes, which is the table's own. That
+// other hosts may not be reached is kept aside until the site's own is known.
+fn put_members(
+    alloc: Global,
+    settings: &mut Settings,
+    table: &Table,
+    doctype: Doctype,
+) -> Result<(), SettingsFault>
+    ensures ok { OnOk result (and_then (with_members (table_for doctype) (table_view table.now) (record settings.old { external = true })) unless_conflict ≡ Ok settings.new) }
+    ensures err { IfErr result (λ fault. fault ≢ SettingsFault.Memory →
+        and_then (with_members (table_for doctype) (table_view table.now) (record settings.old { external = true })) unless_conflict ≡ Err fault) }
+    ensures ordered { Ascends (table_view table.now) }
+{
     let mut external = true;
     for (name, value) in table.iter() {
         read_member(
             alloc,
-            &mut settings,
+            settings,
             &mut external,
             doctype,
             name.as_str(),
             value,
         )?;
     }
-    settle(&mut settings, external)?;
-    Ok(settings)
+    settle(settings, external)
 }
 
 // Puts in whether other hosts may be reached; where they may not, the site's own must be there.
@@ -99,22 +113,124 @@ fn read_member(
         with_member (table_for doctype) (record settings.old { external = external.old }) name.now (view value.now) ≡ Err fault) }
 {
     match name {
-        "attributes" => settings.set_attributes(read_attributes(value)?),
-        "denied_hosts" => settings.set_denied_hosts(read_hosts(alloc, value)?),
-        "doctype" => settings.set_doctype(read_doctype(value)?),
-        "elements" => settings.set_elements(read_elements(doctype, value)?),
-        "external" => *external = read_truth(value)?,
-        "host" => settings.set_host(read_host(alloc, value)?),
-        "id_prefix" => settings.set_id_prefix(read_prefix(alloc, value)?),
-        "ids" => settings.set_ids(read_truth(value)?),
-        "parent" => settings.set_parent(read_parent(value)?),
-        "properties" => settings.set_properties(read_properties(value)?),
-        "schemes" => settings.set_schemes(read_schemes(value)?),
-        "version" => {
-            read_version(value)?;
-        }
-        _ => return Err(SettingsFault::UnknownKey),
+        "attributes" => put_attributes(settings, value),
+        "denied_hosts" => put_denied_hosts(alloc, settings, value),
+        "doctype" => put_doctype(settings, value),
+        "elements" => put_elements(settings, doctype, value),
+        "external" => put_external(external, value),
+        "host" => put_host(alloc, settings, value),
+        "id_prefix" => put_id_prefix(alloc, settings, value),
+        "ids" => put_ids(settings, value),
+        "parent" => put_parent(settings, value),
+        "properties" => put_properties(settings, value),
+        "schemes" => put_schemes(settings, value),
+        "version" => read_version(value),
+        _ => Err(SettingsFault::UnknownKey),
     }
+}
+
+// Puts in the attributes that a list names.
+fn put_attributes(settings: &mut Settings, value: &Value) -> Result<(), SettingsFault>
+    ensures { reading_map (λ _. settings.new) result
+        ≡ reading_map (λ attrs. record settings.old { attributes = Some (attributes_in_order attrs) }) (list_in attribute_of (view value.now)) }
+{
+    settings.set_attributes(read_attributes(value)?);
+    Ok(())
+}
+
+// Puts in the hosts that a list names, to which no URI may lead.
+fn put_denied_hosts(
+    alloc: Global,
+    settings: &mut Settings,
+    value: &Value,
+) -> Result<(), SettingsFault>
+    ensures ok { OnOk result (reading_map (λ hosts. record settings.old { denied_hosts = hosts }) (list_in host_named (view value.now)) ≡ Ok settings.new) }
+    ensures err { IfErr result (λ fault. fault ≢ SettingsFault.Memory → list_in host_named (view value.now) ≡ Err fault) }
+{
+    settings.set_denied_hosts(read_hosts(alloc, value)?);
+    Ok(())
+}
+
+// Puts in the doctype that a value names.
+fn put_doctype(settings: &mut Settings, value: &Value) -> Result<(), SettingsFault>
+    ensures { reading_map (λ _. settings.new) result
+        ≡ reading_map (λ doctype. record settings.old { doctype = doctype }) (text_in doctype_named (view value.now)) }
+{
+    settings.set_doctype(read_doctype(value)?);
+    Ok(())
+}
+
+// Puts in the elements of a doctype that a list names.
+fn put_elements(
+    settings: &mut Settings,
+    doctype: Doctype,
+    value: &Value,
+) -> Result<(), SettingsFault>
+    ensures { reading_map (λ _. settings.new) result
+        ≡ reading_map (λ elements. record settings.old { elements = Some (in_order elements) }) (list_in (element_of doctype) (view value.now)) }
+{
+    settings.set_elements(read_elements(doctype, value)?);
+    Ok(())
+}
+
+// Puts in whether URIs may lead to other hosts than the site's own.
+fn put_external(external: &mut bool, value: &Value) -> Result<(), SettingsFault>
+    ensures { reading_map (λ _. external.new) result ≡ truth_in (view value.now) }
+{
+    *external = read_truth(value)?;
+    Ok(())
+}
+
+// Puts in the site's own host, which a value names.
+fn put_host(alloc: Global, settings: &mut Settings, value: &Value) -> Result<(), SettingsFault>
+    ensures ok { OnOk result (reading_map (λ host. record settings.old { host = Some host }) (text_in host_named (view value.now)) ≡ Ok settings.new) }
+    ensures err { IfErr result (λ fault. fault ≢ SettingsFault.Memory → text_in host_named (view value.now) ≡ Err fault) }
+{
+    settings.set_host(read_host(alloc, value)?);
+    Ok(())
+}
+
+// Puts in what stands in front of ids.
+fn put_id_prefix(alloc: Global, settings: &mut Settings, value: &Value) -> Result<(), SettingsFault>
+    ensures ok { OnOk result (reading_map (λ prefix. record settings.old { id_prefix = prefix }) (text_in prefix_named (view value.now)) ≡ Ok settings.new) }
+    ensures err { IfErr result (λ fault. fault ≢ SettingsFault.Memory → text_in prefix_named (view value.now) ≡ Err fault) }
+{
+    settings.set_id_prefix(read_prefix(alloc, value)?);
+    Ok(())
+}
+
+// Puts in whether elements may have an `id`.
+fn put_ids(settings: &mut Settings, value: &Value) -> Result<(), SettingsFault>
+    ensures { reading_map (λ _. settings.new) result ≡ reading_map (λ ids. record settings.old { ids = ids }) (truth_in (view value.now)) }
+{
+    settings.set_ids(read_truth(value)?);
+    Ok(())
+}
+
+// Puts in what the fragment may hold, by the parent that a value names.
+fn put_parent(settings: &mut Settings, value: &Value) -> Result<(), SettingsFault>
+    ensures { reading_map (λ _. settings.new) result
+        ≡ reading_map (λ content. record settings.old { parent = content }) (text_in content_in_parent (view value.now)) }
+{
+    settings.set_parent(read_parent(value)?);
+    Ok(())
+}
+
+// Puts in the properties that a list names.
+fn put_properties(settings: &mut Settings, value: &Value) -> Result<(), SettingsFault>
+    ensures { reading_map (λ _. settings.new) result
+        ≡ reading_map (λ properties. record settings.old { properties = Some (properties_in_order properties) }) (list_in prop_named (view value.now)) }
+{
+    settings.set_properties(read_properties(value)?);
+    Ok(())
+}
+
+// Puts in the schemes that a list names.
+fn put_schemes(settings: &mut Settings, value: &Value) -> Result<(), SettingsFault>
+    ensures { reading_map (λ _. settings.new) result
+        ≡ reading_map (λ schemes. record settings.old { schemes = Some (schemes_in_order schemes) }) (list_in scheme_named (view value.now)) }
+{
+    settings.set_schemes(read_schemes(value)?);
     Ok(())
 }
 
@@ -285,12 +401,12 @@ fn read_truth(value: &Value) -> Result<bool, SettingsFault>
     value.as_bool().ok_or(SettingsFault::WrongKind)
 }
 
-// The version that a value is.
-fn read_version(value: &Value) -> Result<i64, SettingsFault>
-    ensures { result ≡ number_in (int_eq (pos 1)) (view value.now) }
+// Whether a value is the one version that is known; an offence, if not.
+fn read_version(value: &Value) -> Result<(), SettingsFault>
+    ensures { result ≡ reading_map (λ _. tt) (number_in (int_eq (pos 1)) (view value.now)) }
 {
     match value.as_integer() {
-        Some(number) if number == 1 => Ok(number),
+        Some(number) if number == 1 => Ok(()),
         Some(_) => Err(SettingsFault::UnknownName),
         None => Err(SettingsFault::WrongKind),
     }

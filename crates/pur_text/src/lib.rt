@@ -8,8 +8,6 @@ mod cleaning;
 mod hosts;
 mod laws;
 mod runs;
-#[cfg(test)]
-mod tests;
 mod trimming;
 
 pub use characters::{is_allowed, is_space, lower_ascii};

@@ -12,8 +12,6 @@ mod pairs_in_order;
 mod stored_pair;
 mod stored_pairs;
 mod styles;
-#[cfg(test)]
-mod tests;
 mod tokens;
 
 pub use attribute_list::AttrList;

@@ -15,8 +15,6 @@ mod laws;
 mod level;
 mod node;
 mod room;
-#[cfg(test)]
-mod tests;
 mod walking;
 
 pub use builder::Builder;

@@ -14,6 +14,3 @@ mod words;
 pub use kinds::{ValueKind, kind_of};
 pub use laws::{canonical_is_read_as_itself, values_are_allowed};
 pub use reading::read_value;
-
-#[cfg(test)]
-mod tests;

@@ -8,8 +8,6 @@ mod open_elements;
 mod reopening;
 mod search;
 mod steps;
-#[cfg(test)]
-mod tests;
 
 pub use closing::{Closing, make_wellformed};
 pub use laws::{

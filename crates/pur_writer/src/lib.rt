@@ -6,8 +6,6 @@
 
 mod attributes;
 mod escaping;
-#[cfg(test)]
-mod tests;
 mod writing;
 
 pub use writing::write;

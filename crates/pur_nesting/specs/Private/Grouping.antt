@@ -21,6 +21,10 @@ stack Feet parts = nodes_of parts.feet.items
 stack Bodies parts = nodes_of parts.bodies.items
 stack Surplus parts = nodes_of parts.surplus.items
 
+-- the parts of a table that stand between its lead and its bodies, before these
+abbrev pub before_bodies : Nodes → Nodes → Nodes → Nodes → Nodes → Nodes
+before_bodies captions columns heads feet bodies = nodes_append captions (nodes_append columns (nodes_append heads (nodes_append feet bodies)))
+
 -- a node before others, if it belongs to the part that is wanted
 abbrev pub before_if : Part → Part → Node → Nodes → Nodes
 before_if wanted part node more = if same_part wanted part then node_before node more else more
