@@ -1,10 +1,10 @@
 //! The guest book's rule of hosts, and a test of its own that answers by it.
 ghost use Rattle.std.specs.Prelude.{◌≡◌, IfOk, codes};
-ghost use Rattle.pur_urigate.specs.HostRules.{admits, is_under};
+ghost use Rattle.pur_uripolicy.specs.HostRules.{admits, is_under};
 ghost use Rattle.guestbook.specs.Home.{home};
 
 use pur_uri::Uri;
-use pur_urigate::HostRule;
+use pur_uripolicy::HostRule;
 use std::alloc::{AllocError, Global};
 
 // The rule of hosts.
@@ -16,7 +16,7 @@ pub fn home_rule(alloc: Global) -> Result<HostRule, AllocError>
 }
 
 // Whether a URI has no host, or leads to the guest book's own host or one below it.
-#[tactic(auto, unfolding(pur_urigate::specs::HostRules::admits))]
+#[tactic(auto, unfolding(pur_uripolicy::specs::HostRules::admits))]
 pub fn leads_home(uri: &Uri) -> bool
     ensures { result ≡ admits home uri.now }
 {
@@ -27,7 +27,7 @@ pub fn leads_home(uri: &Uri) -> bool
 }
 
 // Whether a host is the guest book's own or one below it.
-#[tactic(auto, unfolding(pur_urigate::specs::HostRules::is_under))]
+#[tactic(auto, unfolding(pur_uripolicy::specs::HostRules::is_under))]
 fn is_home(host: &[u8]) -> bool
     ensures { result ≡ is_under host.now (codes "guests.example") }
 {

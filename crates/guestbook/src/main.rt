@@ -4,13 +4,14 @@
 
 mod home;
 
-ghost use Rattle.pur_urigate.specs.Asking.{AnswersBy};
+ghost use Rattle.pur_uripolicy.specs.Asking.{AnswersBy};
+ghost use Rattle.pur_uripolicy.specs.HostRules.{admits};
 
 use crate::home::{home_rule, leads_home};
 use pur_engine::purify;
 use pur_settings::Settings;
 use pur_uri::Uri;
-use pur_urigate::{HostRule, UriGate, UriTest};
+use pur_uripolicy::{HostRule, UriGate, UriTest};
 use std::alloc::{AllocError, Global};
 use std::io;
 
@@ -33,17 +34,17 @@ fn main(rt: HostRuntime) -> io::Result<()> {
 // An entry as the guest book shows it.
 fn clean_entry(alloc: Global, entry: &str) -> Result<Vec<u8>, AllocError> {
     let rule = home_rule(alloc)?;
-    clean_by(alloc, rule, |uri: &Uri| leads_home(uri), entry)
+    clean_by(alloc, &rule, |uri: &Uri| leads_home(uri), entry)
 }
 
 // An entry that is filtered where a closure answers by the rule.
 fn clean_by<F: UriTest + Drop>(
     alloc: Global,
-    rule: HostRule,
+    rule: &HostRule,
     filter: F,
     entry: &str,
 ) -> Result<Vec<u8>, AllocError>
-    requires { AnswersBy F.may_ask F.answers filter rule }
+    requires { AnswersBy F.may_ask F.answers filter (admits rule.now) }
 {
     let gate = UriGate::new(rule, filter);
     purify(alloc, &Settings::defaults(), &gate, entry.as_bytes())

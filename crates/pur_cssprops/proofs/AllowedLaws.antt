@@ -10,8 +10,7 @@ use Rattle.std.proofs.lemmas.Option.{option_and_then_some, same_Some}
 use Rattle.pur_laws.proofs.Lists.{all-append, all-filter, all-weaker}
 use Rattle.pur_laws.proofs.Tests.{kept, all-named}
 use Rattle.pur_names.specs.Properties.{prop_name}
-use Rattle.pur_names.specs.declared.schemes.SchemeName.{SchemeName}
-use Rattle.pur_settings.specs.Rules.{Rules, permits_a_scheme}
+use Rattle.pur_settings.specs.Rules.{Rules}
 use Rattle.pur_text.specs.Characters.{is_allowed, is_between, is_space}
 use Rattle.pur_text.specs.Trimming.{trimmed}
 use Rattle.pur_csstok.specs.Atoms.{is_atom_character, is_atom}
@@ -23,10 +22,8 @@ use Rattle.pur_csstok.specs.Urls.{url_read, url_text}
 use Rattle.pur_uri.specs.Escapes.{stays_in_query, stays_in_path}
 use Rattle.pur_uri.specs.Laws.{is_canonical_byte}
 use Rattle.pur_uri.specs.Uris.{PlainUri, uri_of, uri_text}
-use Rattle.pur_urigate.specs.Admissible.{is_fit}
-use Rattle.pur_urigate.specs.HostRules.{PlainHostRule}
-use Rattle.pur_urigate.specs.declared.uses.UriUse.TheVariants.{Embed}
-use Rattle.pur_cssprops.specs.Forms.{readings, spaced, words_read, are_each_once, ordered_read, url_with, embedded, image_read, form_read, value_read}
+use Rattle.pur_uripolicy.specs.HostRules.{PlainHostRule}
+use Rattle.pur_cssprops.specs.Forms.{readings, spaced, words_read, are_each_once, ordered_read, embedded, image_read, form_read, value_read}
 use Rattle.pur_cssprops.specs.Keywords.{keyword_read}
 use Rattle.pur_cssprops.specs.Laws.{StyleAllowed}
 use Rattle.pur_cssprops.specs.Properties.{form_of}
@@ -37,6 +34,7 @@ use Rattle.pur_cssprops.specs.declared.forms.WordForm.{WordForm}
 use Rattle.pur_cssprops.specs.declared.forms.WordForm.TheVariants.{Color, Keyword, Length}
 use Rattle.pur_cssprops.specs.declared.keywords.Keywords.{Keywords}
 use Rattle.pur_cssprops.specs.declared.keywords.Keywords.TheVariants.{Inherit, NoneAlone, LineWidth, LineStyle, Underline, Overline, LineThrough}
+use Rattle.pur_cssprops.proofs.EmbeddedLemmas.{embedded-is}
 use Rattle.pur_cssprops.proofs.KeptLemmas.{named_chars, Every, once-every, written-is}
 use Rattle.pur_cssprops.proofs.KeywordLemmas.{keyword-atom}
 use Rattle.pur_cssprops.proofs.PropertyLemmas.{names_clean}
@@ -210,19 +208,18 @@ module _ (laws : AtomLaws) where
       (kept (not (length words == 0) && are_each_once (length words) a b c) (spaced (a ++ (b ++ c))) out e).1
 
   module _ (canonical : (raw : List ℕ) (uri : PlainUri) → uri_of raw ≡ Some uri → list_all is_canonical_byte (uri_text uri) ≡ true) where
-    module _ (permitted : SchemeName → Bool) (rule : PlainHostRule) where
-      image_printable : (text out : List ℕ) → image_read permitted rule text ≡ Some out → are_printable out ≡ true
-      unfolding image_read embedded url_with
+    module _ (rules : Rules) (rule : PlainHostRule) where
+      image_printable : (text out : List ℕ) → image_read rules rule text ≡ Some out → are_printable out ≡ true
+      unfolding image_read
       image_printable text out e =
-          or_either (keyword_read NoneAlone text) (option_and_then (embedded permitted rule) (url_read text)) out e
+          or_either (keyword_read NoneAlone text) (option_and_then (embedded rules rule) (url_read text)) out e
           (keyword_printable NoneAlone text out)
-          (λ behind. option_and_then_some (embedded permitted rule) (url_read text) out behind
-          (λ inner found more. option_and_then_some (url_with permitted rule) (uri_of (encode_utf8_all inner)) out more
-          (λ uri is last.
-          ap are_printable (sym (kept (is_fit Embed permitted rule uri) (url_text (uri_text uri)) out last).1)
-          ∙ url_printable (uri_text uri) (canonical (encode_utf8_all inner) uri is))))
+          (λ behind. option_and_then_some (embedded rules rule) (url_read text) out behind
+          (λ inner found more.
+          let is = embedded-is rules rule inner out more in
+          ap are_printable (sym is.written) ∙ url_printable (uri_text is.uri) (canonical (encode_utf8_all inner) is.uri is.read)))
 
-      form_printable : (form : ValueForm) (text out : List ℕ) → form_read permitted rule form text ≡ Some out → are_printable out ≡ true
+      form_printable : (form : ValueForm) (text out : List ℕ) → form_read rules rule form text ≡ Some out → are_printable out ≡ true
       unfolding form_read
       form_printable (Word form) text out e = atom_out out (word-fixed laws form text out e).atom
       form_printable Image text out e = image_printable text out e
@@ -234,9 +231,9 @@ module _ (laws : AtomLaws) where
           (keyword_printable NoneAlone text out)
           (ordered_printable (Keyword Underline) (Keyword Overline) (Keyword LineThrough) text out)
 
-      value_out : (form : ValueForm) (text out : List ℕ) → value_read permitted rule form text ≡ Some out → are_printable out ≡ true
+      value_out : (form : ValueForm) (text out : List ℕ) → value_read rules rule form text ≡ Some out → are_printable out ≡ true
       unfolding value_read
-      value_out form text out e = or_either (keyword_read Inherit text) (form_read permitted rule form text) out e (keyword_printable Inherit text out) (form_printable form text out)
+      value_out form text out e = or_either (keyword_read Inherit text) (form_read rules rule form text) out e (keyword_printable Inherit text out) (form_printable form text out)
 
     -- ---- styles
 
@@ -247,7 +244,7 @@ module _ (laws : AtomLaws) where
           → Every IsPrintable (cons_option found (filter_map (declaration_kept rules rule) pairs))
       go None is later = later
       go (Some kept) is later =
-          (value_out (permits_a_scheme rules) rule (form_of kept.0) pair.1 kept.1 (kept-of rules rule pair kept is).1, later)
+          (value_out rules rule (form_of kept.0) pair.1 kept.1 (kept-of rules rule pair kept is).1, later)
 
     pub styles-allowed : StyleAllowed
     unfolding style_read

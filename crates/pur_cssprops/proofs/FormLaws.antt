@@ -2,10 +2,10 @@
 use Rattle.std.proofs.Common.{◌≡◌, ℕ, Bool, false, List, Some, None, Option, ap, sym, ◌∙◌, refl, IsUtf8}
 use Rattle.std.specs.Option.{option_or}
 use Rattle.std.specs.Str.{chars, str_to_ascii_lowercase}
-use Rattle.pur_names.specs.declared.schemes.SchemeName.{SchemeName}
+use Rattle.pur_settings.specs.Rules.{Rules}
 use Rattle.pur_csstok.specs.Families.{families_read}
 use Rattle.pur_uri.specs.Uris.{uri_text}
-use Rattle.pur_urigate.specs.HostRules.{PlainHostRule}
+use Rattle.pur_uripolicy.specs.HostRules.{PlainHostRule}
 use Rattle.pur_cssprops.specs.Forms.{ordered_read, border_read, decoration_read, form_read, value_read}
 use Rattle.pur_cssprops.specs.Keywords.{keyword_read}
 use Rattle.pur_cssprops.specs.Laws.{ReadAsItself}
@@ -48,30 +48,30 @@ module _ (atoms : AtomLaws) where
       (λ here. ap (λ o. option_or o (lines out)) (keyword-again NoneAlone out (keyword-out NoneAlone text out here)))
       (λ behind. keyword-or NoneAlone (lines out) out (lines-lowered text out behind) (lines-again text out behind))
 
-  module _ (urls : UrlLaws) (families : (text out : List ℕ) → families_read text ≡ Some out → families_read out ≡ Some out) (permitted : SchemeName → Bool) (rule : PlainHostRule) where
+  module _ (urls : UrlLaws) (families : (text out : List ℕ) → families_read text ≡ Some out → families_read out ≡ Some out) (rules : Rules) (rule : PlainHostRule) where
     abbrev read : ValueForm → List ℕ → Option (List ℕ)
-    read form text = form_read permitted rule form text
+    read form text = form_read rules rule form text
 
     -- behind `inherit`, where what is read is in lower case or isn't that word
-    lowered-stays : (form : ValueForm) (out : List ℕ) → str_to_ascii_lowercase out ≡ out → read form out ≡ Some out → value_read permitted rule form out ≡ Some out
+    lowered-stays : (form : ValueForm) (out : List ℕ) → str_to_ascii_lowercase out ≡ out → read form out ≡ Some out → value_read rules rule form out ≡ Some out
     unfolding value_read
     lowered-stays form out low again = keyword-or Inherit (read form out) out low again
 
-    other-stays : (form : ValueForm) (out : List ℕ) → keyword_read Inherit out ≡ None → read form out ≡ Some out → value_read permitted rule form out ≡ Some out
+    other-stays : (form : ValueForm) (out : List ℕ) → keyword_read Inherit out ≡ None → read form out ≡ Some out → value_read rules rule form out ≡ Some out
     unfolding value_read
     other-stays form out none again = ap (λ o. option_or o (read form out)) none ∙ again
 
-    url-other : (out : List ℕ) → IsUrl permitted rule out → keyword_read Inherit out ≡ None
+    url-other : (out : List ℕ) → IsUrl rules rule out → keyword_read Inherit out ≡ None
     url-other out is = ap (keyword_read Inherit) (sym is.written) ∙ url_no_keyword Inherit refl (uri_text is.uri)
 
-    form-stays : (form : ValueForm) (raw out : List ℕ) → IsUtf8 raw → read form (chars raw) ≡ Some out → value_read permitted rule form out ≡ Some out
+    form-stays : (form : ValueForm) (raw out : List ℕ) → IsUtf8 raw → read form (chars raw) ≡ Some out → value_read rules rule form out ≡ Some out
     unfolding form_read
     form-stays (Word form) raw out is e =
         let fixed = word-fixed atoms form (chars raw) out e in
         lowered-stays (Word form) out (atom-lowered out fixed.atom) fixed.again
     form-stays Image raw out is e =
-        let again = image-again urls permitted rule raw out is e in
-        image-is urls permitted rule raw out is e
+        let again = image-again urls rules rule raw out is e in
+        image-is urls rules rule raw out is e
         (λ one. lowered-stays Image out (atom-lowered out (keyword-atom NoneAlone out one)) again)
         (λ url. other-stays Image out (url-other out url) again)
     form-stays Families raw out is e = other-stays Families out (families_no_inherit (chars raw) out e) (families (chars raw) out e)
@@ -79,7 +79,7 @@ module _ (atoms : AtomLaws) where
     form-stays Border raw out is e = lowered-stays Border out (border-lowered (chars raw) out e) (border-again (chars raw) out e)
     form-stays Decoration raw out is e = lowered-stays Decoration out (decoration-lowered (chars raw) out e) (decoration-again (chars raw) out e)
 
-    value-stays : (form : ValueForm) (raw out : List ℕ) → IsUtf8 raw → value_read permitted rule form (chars raw) ≡ Some out → value_read permitted rule form out ≡ Some out
+    value-stays : (form : ValueForm) (raw out : List ℕ) → IsUtf8 raw → value_read rules rule form (chars raw) ≡ Some out → value_read rules rule form out ≡ Some out
     unfolding value_read
     value-stays form raw out is e =
         or_either (keyword_read Inherit (chars raw)) (read form (chars raw)) out e
@@ -87,4 +87,4 @@ module _ (atoms : AtomLaws) where
         (form-stays form raw out is)
 
 pub all-stay : AtomLaws → UrlLaws → ((text out : List ℕ) → families_read text ≡ Some out → families_read out ≡ Some out) → ReadAsItself
-all-stay atoms urls families permitted rule form raw out is e = value-stays atoms urls families permitted rule form raw out is e
+all-stay atoms urls families rules rule form raw out is e = value-stays atoms urls families rules rule form raw out is e

@@ -17,7 +17,7 @@ use Rattle.pur_names.specs.Properties.{prop_name, prop_named, same_prop}
 use Rattle.pur_names.specs.declared.properties.StyleProp.{StyleProp}
 use Rattle.pur_settings.specs.Rules.{Rules}
 use Rattle.pur_csstok.specs.Declarations.{Pair, declaration_body, style_text}
-use Rattle.pur_urigate.specs.HostRules.{PlainHostRule}
+use Rattle.pur_uripolicy.specs.HostRules.{PlainHostRule}
 use Rattle.pur_cssprops.specs.Private.Held.{named, entry_held, with_kept, with_one, with_all, written}
 use Rattle.pur_cssprops.specs.Styles.{Kept, property_read, declaration_kept, firsts, last_value, each_once, style_written}
 use Rattle.pur_cssprops.proofs.InnerLaws.{or_parts}

@@ -1,5 +1,6 @@
 pub mod AllowedLaws
 pub mod ApartLaws
+pub mod EmbeddedLemmas
 pub mod FamilyLaws
 pub mod FormLaws
 pub mod InnerLaws

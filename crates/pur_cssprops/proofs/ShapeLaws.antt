@@ -10,8 +10,8 @@ use Rattle.std.proofs.lemmas.Str.{encode_ascii}
 use Rattle.pur_laws.proofs.Lists.{all-append, all-weaker}
 use Rattle.pur_laws.proofs.Sequences.{are_high, high_bytes, some_bytes}
 use Rattle.pur_laws.proofs.Tests.{kept}
-use Rattle.pur_names.specs.declared.schemes.SchemeName.{SchemeName}
 use Rattle.pur_text.specs.Characters.{is_between}
+use Rattle.pur_settings.specs.Rules.{Rules}
 use Rattle.pur_csstok.specs.Atoms.{is_atom}
 use Rattle.pur_csstok.specs.Declarations.{IsCleanValue, has_escape_or_comment, words_of}
 use Rattle.pur_csstok.specs.Families.{families_read}
@@ -20,10 +20,8 @@ use Rattle.pur_uri.specs.Escapes.{stays_in_query, stays_in_path}
 use Rattle.pur_uri.specs.Laws.{is_canonical_byte, has_comment}
 use Rattle.pur_uri.specs.Splitting.{is_kept}
 use Rattle.pur_uri.specs.Uris.{PlainUri, uri_of, uri_text}
-use Rattle.pur_urigate.specs.Admissible.{is_fit}
-use Rattle.pur_urigate.specs.HostRules.{PlainHostRule}
-use Rattle.pur_urigate.specs.declared.uses.UriUse.TheVariants.{Embed}
-use Rattle.pur_cssprops.specs.Forms.{readings, spaced, words_read, are_each_once, ordered_read, url_with, embedded, image_read, form_read, value_read}
+use Rattle.pur_uripolicy.specs.HostRules.{PlainHostRule}
+use Rattle.pur_cssprops.specs.Forms.{readings, spaced, words_read, are_each_once, ordered_read, embedded, image_read, form_read, value_read}
 use Rattle.pur_cssprops.specs.Keywords.{keyword_read}
 use Rattle.pur_cssprops.specs.declared.forms.ValueForm.{ValueForm}
 use Rattle.pur_cssprops.specs.declared.forms.ValueForm.TheVariants.{Word, Image, Families, Words, Border, Decoration}
@@ -31,6 +29,7 @@ use Rattle.pur_cssprops.specs.declared.forms.WordForm.{WordForm}
 use Rattle.pur_cssprops.specs.declared.forms.WordForm.TheVariants.{Color, Keyword, Length}
 use Rattle.pur_cssprops.specs.declared.keywords.Keywords.{Keywords}
 use Rattle.pur_cssprops.specs.declared.keywords.Keywords.TheVariants.{Inherit, NoneAlone, LineWidth, LineStyle, Underline, Overline, LineThrough}
+use Rattle.pur_cssprops.proofs.EmbeddedLemmas.{embedded-is}
 use Rattle.pur_cssprops.proofs.InnerLaws.{IsPlain, or_parts, and_weaker, or_both, plain-inherited, url-found}
 use Rattle.pur_cssprops.proofs.KeywordLemmas.{keyword-atom}
 use Rattle.pur_cssprops.proofs.SequenceLaws.{readings-atoms, all_atoms}
@@ -160,28 +159,26 @@ module _ (laws : AtomLaws) (clean : CleanLaws) where
         not-is false is = refl
         not-is true is = absurd cc
 
-  module _ (permitted : SchemeName → Bool) (rule : PlainHostRule) where
-    url_clean : (inner out : List ℕ) → IsPlain inner → list_all is_kept inner ≡ true → embedded permitted rule inner ≡ Some out → IsCleanValue out
-    unfolding embedded url_with
+  module _ (rules : Rules) (rule : PlainHostRule) where
+    url_clean : (inner out : List ℕ) → IsPlain inner → list_all is_kept inner ≡ true → embedded rules rule inner ≡ Some out → IsCleanValue out
     url_clean inner out plain whole e =
+        let is = embedded-is rules rule inner out e in
         let raw = encode_utf8_all inner in
-        option_and_then_some (url_with permitted rule) (uri_of raw) out e
-        (λ uri is more.
-        let text = uri_text uri in
-        let bytes = clean.canonical raw uri is in
-        let none = clean.comment raw uri is (kept_bytes inner whole) (comment_bytes inner plain) in
-        subst IsCleanValue (kept (is_fit Embed permitted rule uri) (url_text text) out more).1
-        (clean.urls text (all-weaker is_canonical_byte (λ c. not (c == 0x22)) no_quote text bytes) (plain_text text bytes none)))
+        let text = uri_text is.uri in
+        let bytes = clean.canonical raw is.uri is.read in
+        let none = clean.comment raw is.uri is.read (kept_bytes inner whole) (comment_bytes inner plain) in
+        subst IsCleanValue is.written
+        (clean.urls text (all-weaker is_canonical_byte (λ c. not (c == 0x22)) no_quote text bytes) (plain_text text bytes none))
 
-    image_clean : (text out : List ℕ) → IsPlain text → image_read permitted rule text ≡ Some out → IsCleanValue out
+    image_clean : (text out : List ℕ) → IsPlain text → image_read rules rule text ≡ Some out → IsCleanValue out
     unfolding image_read
     image_clean text out plain e =
-        or_either (keyword_read NoneAlone text) (option_and_then (embedded permitted rule) (url_read text)) out e
+        or_either (keyword_read NoneAlone text) (option_and_then (embedded rules rule) (url_read text)) out e
         (keyword_clean NoneAlone text out)
-        (λ behind. option_and_then_some (embedded permitted rule) (url_read text) out behind
+        (λ behind. option_and_then_some (embedded rules rule) (url_read text) out behind
         (λ inner found more. let parts = url-found IsPlain plain-inherited text inner plain found in url_clean inner out parts.0 parts.1 more))
 
-    form_clean : (form : ValueForm) (text out : List ℕ) → IsPlain text → form_read permitted rule form text ≡ Some out → IsCleanValue out
+    form_clean : (form : ValueForm) (text out : List ℕ) → IsPlain text → form_read rules rule form text ≡ Some out → IsCleanValue out
     unfolding form_read
     form_clean (Word form) text out plain e = atom_clean out (word-fixed laws form text out e).atom
     form_clean Image text out plain e = image_clean text out plain e
@@ -194,7 +191,7 @@ module _ (laws : AtomLaws) (clean : CleanLaws) where
         (ordered_clean (Keyword Underline) (Keyword Overline) (Keyword LineThrough) text out)
 
     -- what a plain value is read as can stand in a style
-    pub value-clean : (form : ValueForm) (text out : List ℕ) → IsPlain text → value_read permitted rule form text ≡ Some out → IsCleanValue out
+    pub value-clean : (form : ValueForm) (text out : List ℕ) → IsPlain text → value_read rules rule form text ≡ Some out → IsCleanValue out
     unfolding value_read
     value-clean form text out plain e =
-        or_either (keyword_read Inherit text) (form_read permitted rule form text) out e (keyword_clean Inherit text out) (form_clean form text out plain)
+        or_either (keyword_read Inherit text) (form_read rules rule form text) out e (keyword_clean Inherit text out) (form_clean form text out plain)

@@ -15,10 +15,10 @@ use Rattle.pur_names.specs.Properties.{prop_named}
 use Rattle.pur_names.specs.declared.properties.StyleProp.{StyleProp}
 use Rattle.pur_text.specs.Characters.{is_allowed}
 use Rattle.pur_text.specs.Trimming.{trimmed}
-use Rattle.pur_settings.specs.Rules.{Rules, permits_property, permits_a_scheme}
+use Rattle.pur_settings.specs.Rules.{Rules, permits_property}
 use Rattle.pur_csstok.specs.Cuts.{nothing_open, is_cut, open_after, heeds_parentheses, pieces_from, pieces}
 use Rattle.pur_csstok.specs.Declarations.{Pair, has_escape_or_comment, is_colon, clean_pair, declaration_of, declarations_of, style_text, AreClean}
-use Rattle.pur_urigate.specs.HostRules.{PlainHostRule}
+use Rattle.pur_uripolicy.specs.HostRules.{PlainHostRule}
 use Rattle.pur_cssprops.specs.Forms.{value_read}
 use Rattle.pur_cssprops.specs.Laws.{ReadAsItself, StyleReadAsItself}
 use Rattle.pur_cssprops.specs.Properties.{form_of}
@@ -43,15 +43,15 @@ unless true one out e = absurd cc
 -- the value of a declaration whose value was read
 abbrev pub IsReadOf : Rules → PlainHostRule → List ℕ → Kept → Type 0
 IsReadOf rules rule raw kept =
-    (permits_property rules kept.0 ≡ true) × (value_read (permits_a_scheme rules) rule (form_of kept.0) raw ≡ Some kept.1)
+    (permits_property rules kept.0 ≡ true) × (value_read rules rule (form_of kept.0) raw ≡ Some kept.1)
 
 read_of : (rules : Rules) (rule : PlainHostRule) (raw : List ℕ) (property : StyleProp) (kept : Kept) → property_read rules rule raw property ≡ Some kept → IsReadOf rules rule raw kept
 unfolding property_read
 read_of rules rule raw property kept e =
-    let value = value_read (permits_a_scheme rules) rule (form_of property) raw in
+    let value = value_read rules rule (form_of property) raw in
     let is = when (permits_property rules property) (option_map (λ out. (property, out)) value) kept e in
     go value refl is.1 is.0 where
-      go : (found : Option (List ℕ)) → value_read (permits_a_scheme rules) rule (form_of property) raw ≡ found → option_map (λ out. (property, out)) found ≡ Some kept
+      go : (found : Option (List ℕ)) → value_read rules rule (form_of property) raw ≡ found → option_map (λ out. (property, out)) found ≡ Some kept
           → permits_property rules property ≡ true → IsReadOf rules rule raw kept
       go None found e permitted = absurd cc
       go (Some out) found e permitted =
@@ -151,16 +151,16 @@ module _ (rules : Rules) (rule : PlainHostRule) where
     all_clean [] every = tt
     all_clean (kept ∷ all) every =
         let is = every.0 in
-        (record { property = names_clean kept.0; value = value-clean atoms clean (permits_a_scheme rules) rule (form_of kept.0) is.raw kept.1 is.plain is.read.1 }, all_clean all every.1)
+        (record { property = names_clean kept.0; value = value-clean atoms clean rules rule (form_of kept.0) is.raw kept.1 is.plain is.read.1 }, all_clean all every.1)
 
     again : (kept : Kept) → IsRead kept → declaration_kept rules rule (named_chars kept) ≡ Some kept
     unfolding property_read
     again kept is =
         let form = form_of kept.0 in
-        let read = value_read (permits_a_scheme rules) rule form in
+        let read = value_read rules rule form in
         let same : chars (encode_utf8_all is.raw) ≡ is.raw = chars-encodes is.raw (scalars_all is.raw is.characters) in
         let settled : read kept.1 ≡ Some kept.1 =
-        itself (permits_a_scheme rules) rule form (encode_utf8_all is.raw) kept.1 (encoded is.raw is.characters) (ap read same ∙ is.read.1) in
+        itself rules rule form (encode_utf8_all is.raw) kept.1 (encoded is.raw is.characters) (ap read same ∙ is.read.1) in
         kept-read rules rule (named_chars kept) kept.0 (prop_named-name kept.0)
         ∙ cond-true _ _ _ is.read.0 ∙ ap (option_map (λ out. (kept.0, out))) settled
 

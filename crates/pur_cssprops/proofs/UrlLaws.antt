@@ -12,19 +12,18 @@ use lib.Utf8.{scalar, scalars}
 use Rattle.pur_laws.proofs.Lists.{all-weaker}
 use Rattle.pur_laws.proofs.Tests.{kept, all-named}
 use Rattle.pur_laws.proofs.Texts.{encodes_ascii}
-use Rattle.pur_names.specs.declared.schemes.SchemeName.{SchemeName}
+use Rattle.pur_settings.specs.Rules.{Rules}
 use Rattle.pur_csstok.specs.Names.{is_one_of}
 use Rattle.pur_csstok.specs.Urls.{breaks_quotes, url_read, url_text}
 use Rattle.pur_uri.specs.Escapes.{stays_in_query, stays_in_path}
 use Rattle.pur_uri.specs.Laws.{is_canonical_byte}
 use Rattle.pur_uri.specs.Uris.{PlainUri, uri_of, uri_text}
-use Rattle.pur_urigate.specs.Admissible.{is_fit}
-use Rattle.pur_urigate.specs.HostRules.{PlainHostRule}
-use Rattle.pur_urigate.specs.declared.uses.UriUse.TheVariants.{Embed}
-use Rattle.pur_cssprops.specs.Forms.{url_with, embedded, image_read}
+use Rattle.pur_uripolicy.specs.HostRules.{PlainHostRule}
+use Rattle.pur_cssprops.specs.Forms.{embedded, image_read}
 use Rattle.pur_cssprops.specs.Keywords.{words_in, keyword_read}
 use Rattle.pur_cssprops.specs.declared.keywords.Keywords.{Keywords}
 use Rattle.pur_cssprops.specs.declared.keywords.Keywords.TheVariants.{NoneAlone}
+use Rattle.pur_cssprops.proofs.EmbeddedLemmas.{embedded-is, embedded-from}
 use Rattle.pur_cssprops.proofs.InnerLaws.{all-inherited, url-inner}
 use Rattle.pur_cssprops.proofs.TextLemmas.{canonical-ascii}
 use Rattle.pur_cssprops.proofs.WordLaws.{keyword-out, keyword-again, or_either}
@@ -65,48 +64,51 @@ url_no_keyword keywords none text =
     (λ (other : is_one_of (words_in keywords) low ≡ false). cond-false _ _ _ other)
     (cases_Bool (is_one_of (words_in keywords) low))
 
--- what is read is `none`, or the text of a URI in `url()`
-pub record IsUrl (permitted : SchemeName → Bool) (rule : PlainHostRule) (out : List ℕ) : Type 0 where
+-- what is read is `none`, or the text of a URI in `url()`, which is embedded again
+pub record IsUrl (rules : Rules) (rule : PlainHostRule) (out : List ℕ) : Type 0 where
   pub uri : PlainUri
-  pub again : uri_of (uri_text uri) ≡ Some uri
+  pub canonical : list_all is_canonical_byte (uri_text uri) ≡ true
   pub written : url_text (uri_text uri) ≡ out
-  pub fit : is_fit Embed permitted rule uri ≡ true
+  pub again : embedded rules rule (uri_text uri) ≡ Some out
 
-module _ (laws : UrlLaws) (permitted : SchemeName → Bool) (rule : PlainHostRule) where
-  url_found : (inner out : List ℕ) → list_all scalar inner ≡ true → embedded permitted rule inner ≡ Some out → IsUrl permitted rule out
-  unfolding embedded url_with
+module _ (laws : UrlLaws) (rules : Rules) (rule : PlainHostRule) where
+  url_found : (inner out : List ℕ) → list_all scalar inner ≡ true → embedded rules rule inner ≡ Some out → IsUrl rules rule out
   url_found inner out all e =
-      option_and_then_some (url_with permitted rule) (uri_of (encode_utf8_all inner)) out e
-      (λ uri is more.
-      let fits = kept (is_fit Embed permitted rule uri) (url_text (uri_text uri)) out more in
-      record { uri = uri; again = laws.settles (encode_utf8_all inner) uri (encoded inner all) is; written = fits.1; fit = fits.0 })
+      let is = embedded-is rules rule inner out e in
+      let text = uri_text is.uri in
+      let bytes = laws.canonical (encode_utf8_all inner) is.uri is.read in
+      let settled = laws.settles (encode_utf8_all inner) is.uri (encoded inner all) is.read in
+      let same = encodes_ascii text (canonical-ascii text bytes) in
+      record {
+        uri = is.uri;
+        canonical = bytes;
+        written = is.written;
+        again = embedded-from rules rule text out (record { uri = is.uri; read = ap uri_of same ∙ settled; fit = is.fit; written = is.written });
+      }
 
-  url_again : (out : List ℕ) → IsUrl permitted rule out → image_read permitted rule out ≡ Some out
-  unfolding image_read embedded url_with
+  url_again : (out : List ℕ) → IsUrl rules rule out → image_read rules rule out ≡ Some out
+  unfolding image_read
   url_again out is =
       let text = uri_text is.uri in
-      let bytes = laws.canonical text is.uri is.again in
-      let whole = all-weaker is_canonical_byte (λ c. not (breaks_quotes 0x22 c)) byte-whole text bytes in
-      ap (image_read permitted rule) (sym is.written)
-      ∙ ap (λ o. option_or o (option_and_then (embedded permitted rule) (url_read (url_text text)))) (url_no_keyword NoneAlone refl text)
-      ∙ ap (option_and_then (embedded permitted rule)) (laws.url text whole)
-      ∙ ap (λ t. option_and_then (url_with permitted rule) (uri_of t)) (encodes_ascii text (canonical-ascii text bytes))
-      ∙ ap (option_and_then (url_with permitted rule)) is.again
-      ∙ cond-true _ _ _ is.fit ∙ ap Some is.written
+      let whole = all-weaker is_canonical_byte (λ c. not (breaks_quotes 0x22 c)) byte-whole text is.canonical in
+      ap (image_read rules rule) (sym is.written)
+      ∙ ap (λ o. option_or o (option_and_then (embedded rules rule) (url_read (url_text text)))) (url_no_keyword NoneAlone refl text)
+      ∙ ap (option_and_then (embedded rules rule)) (laws.url text whole)
+      ∙ is.again
 
-  none_again : (out : List ℕ) → is_one_of (words_in NoneAlone) out ≡ true → image_read permitted rule out ≡ Some out
+  none_again : (out : List ℕ) → is_one_of (words_in NoneAlone) out ≡ true → image_read rules rule out ≡ Some out
   unfolding image_read
-  none_again out one = ap (λ o. option_or o (option_and_then (embedded permitted rule) (url_read out))) (keyword-again NoneAlone out one)
+  none_again out one = ap (λ o. option_or o (option_and_then (embedded rules rule) (url_read out))) (keyword-again NoneAlone out one)
 
   -- the same of a text's characters, and for a test of what is read
-  pub image-is : {P : Type 0} (raw out : List ℕ) → IsUtf8 raw → image_read permitted rule (chars raw) ≡ Some out
-      → (is_one_of (words_in NoneAlone) out ≡ true → P) → (IsUrl permitted rule out → P) → P
+  pub image-is : {P : Type 0} (raw out : List ℕ) → IsUtf8 raw → image_read rules rule (chars raw) ≡ Some out
+      → (is_one_of (words_in NoneAlone) out ≡ true → P) → (IsUrl rules rule out → P) → P
   unfolding image_read
   image-is raw out is e word url =
-      or_either (keyword_read NoneAlone (chars raw)) (option_and_then (embedded permitted rule) (url_read (chars raw))) out e
+      or_either (keyword_read NoneAlone (chars raw)) (option_and_then (embedded rules rule) (url_read (chars raw))) out e
       (λ here. word (keyword-out NoneAlone (chars raw) out here))
-      (λ behind. option_and_then_some (embedded permitted rule) (url_read (chars raw)) out behind
+      (λ behind. option_and_then_some (embedded rules rule) (url_read (chars raw)) out behind
       (λ inner found more. url (url_found inner out (url-inner (λ text. list_all scalar text ≡ true) (all-inherited scalar) (chars raw) inner (all_scalars (chars raw) (scalars-chars raw is)) found) more)))
 
-  pub image-again : (raw out : List ℕ) → IsUtf8 raw → image_read permitted rule (chars raw) ≡ Some out → image_read permitted rule out ≡ Some out
+  pub image-again : (raw out : List ℕ) → IsUtf8 raw → image_read rules rule (chars raw) ≡ Some out → image_read rules rule out ≡ Some out
   image-again raw out is e = image-is raw out is e (none_again out) (url_again out)

@@ -1,20 +1,19 @@
 -- The forms of values (CSS 2.1, the property index): what a text is read as, or none where it has no reading.
 use Rattle.std.specs.Prelude.{ℕ, ◌==◌, ◌&&◌, not, nat_le, Bool, true, false, List, ◌++◌, length, Option, Some, None, if◌then◌else◌}
-use Rattle.std.specs.Str.{encode_utf8_all}
 use Rattle.std.specs.List.{filter_map, join_with_byte}
-use Rattle.std.specs.Option.{option_and_then, option_or}
+use Rattle.std.specs.Option.{option_and_then, option_map, option_or}
 use Rattle.pur_text.specs.Characters.{is_between}
-use Rattle.pur_names.specs.declared.schemes.SchemeName.{SchemeName}
 use Rattle.pur_csstok.specs.Colors.{color_read}
 use Rattle.pur_csstok.specs.Declarations.{words_of}
 use Rattle.pur_csstok.specs.Families.{families_read}
 use Rattle.pur_csstok.specs.Lengths.{length_read}
 use Rattle.pur_csstok.specs.Numbers.{number_read}
 use Rattle.pur_csstok.specs.Urls.{url_read, url_text}
-use Rattle.pur_uri.specs.Uris.{PlainUri, uri_of, uri_text}
-use Rattle.pur_urigate.specs.Admissible.{is_fit}
-use Rattle.pur_urigate.specs.HostRules.{PlainHostRule}
-use Rattle.pur_urigate.specs.declared.uses.UriUse.TheVariants.{Embed}
+use Rattle.pur_settings.specs.Rules.{Rules}
+use Rattle.pur_uri.specs.Uris.{uri_text}
+use Rattle.pur_uripolicy.specs.Admissible.{uri_under}
+use Rattle.pur_uripolicy.specs.HostRules.{PlainHostRule}
+use Rattle.pur_uripolicy.specs.declared.uses.UriUse.TheVariants.{Embed}
 use Rattle.pur_cssprops.specs.Keywords.{keyword_read}
 use Rattle.pur_cssprops.specs.declared.forms.ValueForm.{ValueForm}
 use Rattle.pur_cssprops.specs.declared.forms.ValueForm.TheVariants as value
@@ -96,29 +95,25 @@ decoration_read text = option_or (keyword_read NoneAlone text) (ordered_read und
 
 -- ---- URLs
 
--- a URI that may be embedded, written in `url()`
-unfoldable pub url_with : (SchemeName → Bool) → PlainHostRule → PlainUri → Option (List ℕ)
-url_with permitted rule uri = if is_fit Embed permitted rule uri then Some (url_text (uri_text uri)) else None
-
--- the URI that the characters of a text write, where it may be embedded
-unfoldable pub embedded : (SchemeName → Bool) → PlainHostRule → List ℕ → Option (List ℕ)
-embedded permitted rule text = option_and_then (url_with permitted rule) (uri_of (encode_utf8_all text))
+-- the URI that the characters of a text write, in `url()`, where it may be embedded
+unfoldable pub embedded : Rules → PlainHostRule → List ℕ → Option (List ℕ)
+embedded rules rule text = option_map (λ uri. url_text (uri_text uri)) (uri_under rules rule Embed text)
 
 -- `none`, or a URL that may be embedded
-unfoldable pub image_read : (SchemeName → Bool) → PlainHostRule → List ℕ → Option (List ℕ)
-image_read permitted rule text = option_or (keyword_read NoneAlone text) (option_and_then (embedded permitted rule) (url_read text))
+unfoldable pub image_read : Rules → PlainHostRule → List ℕ → Option (List ℕ)
+image_read rules rule text = option_or (keyword_read NoneAlone text) (option_and_then (embedded rules rule) (url_read text))
 
 -- ---- all forms
 
--- what a text is read as by its form, for the schemes that are permitted and a rule of hosts
-unfoldable pub form_read : (SchemeName → Bool) → PlainHostRule → ValueForm → List ℕ → Option (List ℕ)
-form_read permitted rule (value.Word form) text = word_read form text
-form_read permitted rule value.Image text = image_read permitted rule text
-form_read permitted rule value.Families text = families_read text
-form_read permitted rule (value.Words form) text = words_read form text
-form_read permitted rule value.Border text = border_read text
-form_read permitted rule value.Decoration text = decoration_read text
+-- what a text is read as by its form, under settings and a rule of hosts
+unfoldable pub form_read : Rules → PlainHostRule → ValueForm → List ℕ → Option (List ℕ)
+form_read rules rule (value.Word form) text = word_read form text
+form_read rules rule value.Image text = image_read rules rule text
+form_read rules rule value.Families text = families_read text
+form_read rules rule (value.Words form) text = words_read form text
+form_read rules rule value.Border text = border_read text
+form_read rules rule value.Decoration text = decoration_read text
 
 -- every property also takes `inherit` (CSS 2.1, section 6.2.1), which is tried first
-unfoldable pub value_read : (SchemeName → Bool) → PlainHostRule → ValueForm → List ℕ → Option (List ℕ)
-value_read permitted rule form text = option_or (keyword_read Inherit text) (form_read permitted rule form text)
+unfoldable pub value_read : Rules → PlainHostRule → ValueForm → List ℕ → Option (List ℕ)
+value_read rules rule form text = option_or (keyword_read Inherit text) (form_read rules rule form text)

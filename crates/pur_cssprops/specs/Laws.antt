@@ -1,11 +1,10 @@
 -- What holds of all forms of values, and of styles.
-use Rattle.std.specs.Prelude.{◌≡◌, ℕ, Bool, List, Some, IsTrue, IsUtf8}
+use Rattle.std.specs.Prelude.{◌≡◌, ℕ, List, Some, IsTrue, IsUtf8}
 use Rattle.std.specs.List.{list_all}
 use Rattle.std.specs.Str.{chars}
-use Rattle.pur_names.specs.declared.schemes.SchemeName.{SchemeName}
 use Rattle.pur_text.specs.Characters.{is_allowed}
 use Rattle.pur_settings.specs.Rules.{Rules}
-use Rattle.pur_urigate.specs.HostRules.{PlainHostRule}
+use Rattle.pur_uripolicy.specs.HostRules.{PlainHostRule}
 use Rattle.pur_cssprops.specs.Forms.{word_read, value_read}
 use Rattle.pur_cssprops.specs.Styles.{style_read}
 use Rattle.pur_cssprops.specs.declared.forms.ValueForm.{ValueForm}
@@ -14,8 +13,8 @@ use Rattle.pur_cssprops.specs.declared.forms.WordForm.{WordForm}
 -- what the characters of a text are read as is read as itself
 abbrev pub ReadAsItself : Type 0
 ReadAsItself =
-    (permitted : SchemeName → Bool) (rule : PlainHostRule) (form : ValueForm) (raw output : List ℕ) → IsUtf8 raw
-    → value_read permitted rule form (chars raw) ≡ Some output → value_read permitted rule form output ≡ Some output
+    (rules : Rules) (rule : PlainHostRule) (form : ValueForm) (raw output : List ℕ) → IsUtf8 raw
+    → value_read rules rule form (chars raw) ≡ Some output → value_read rules rule form output ≡ Some output
 
 -- no text has both forms
 abbrev pub NeverBoth : WordForm → WordForm → Type 0

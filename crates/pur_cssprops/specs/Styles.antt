@@ -4,9 +4,9 @@ use Rattle.std.specs.List.{filter_map}
 use Rattle.std.specs.Option.{option_and_then, option_map, option_or}
 use Rattle.pur_names.specs.Properties.{prop_name, prop_named, same_prop}
 use Rattle.pur_names.specs.declared.properties.StyleProp.{StyleProp}
-use Rattle.pur_settings.specs.Rules.{Rules, permits_property, permits_a_scheme}
+use Rattle.pur_settings.specs.Rules.{Rules, permits_property}
 use Rattle.pur_csstok.specs.Declarations.{Pair, declarations_of, style_text}
-use Rattle.pur_urigate.specs.HostRules.{PlainHostRule}
+use Rattle.pur_uripolicy.specs.HostRules.{PlainHostRule}
 use Rattle.pur_cssprops.specs.Forms.{value_read}
 use Rattle.pur_cssprops.specs.Properties.{form_of}
 
@@ -18,7 +18,7 @@ Kept = StyleProp × List ℕ
 unfoldable pub property_read : Rules → PlainHostRule → List ℕ → StyleProp → Option Kept
 property_read rules rule value property =
     if permits_property rules property
-    then option_map (λ out. (property, out)) (value_read (permits_a_scheme rules) rule (form_of property) value) else None
+    then option_map (λ out. (property, out)) (value_read rules rule (form_of property) value) else None
 
 -- what is kept of a declaration; nothing where no property has its name
 unfoldable pub declaration_kept : Rules → PlainHostRule → Pair → Option Kept

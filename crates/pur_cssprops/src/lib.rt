@@ -10,8 +10,6 @@ mod properties;
 mod reading;
 mod sequences;
 mod styles;
-#[cfg(test)]
-mod tests;
 mod texts;
 mod words;
 

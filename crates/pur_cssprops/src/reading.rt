@@ -1,9 +1,7 @@
 //! Reading a value by its form.
-ghost use Rattle.std.specs.Prelude.{◌≡◌, Bool, IfOk, option_map};
+ghost use Rattle.std.specs.Prelude.{◌≡◌, IfOk, option_map};
 ghost use Rattle.std.specs.Str.{chars};
 ghost use Rattle.pur_text.specs.Texts.{text_of};
-ghost use Rattle.pur_names.specs.declared.schemes.SchemeName.{SchemeName};
-ghost use Rattle.pur_urigate.specs.Admissible.{Tells};
 ghost use Rattle.pur_cssprops.specs.Forms.{form_read, value_read};
 
 use crate::forms::ValueForm;
@@ -12,48 +10,46 @@ use crate::keywords::{Keywords, read_keyword};
 use crate::sequences::{read_border, read_decoration, read_words};
 use crate::words::read_word;
 use pur_csstok::read_families;
-use pur_names::SchemeName;
-use pur_urigate::{UriGate, UriTest};
+use pur_settings::Settings;
+use pur_uripolicy::{UriGate, UriTest};
 use std::alloc::{AllocError, Global};
 
 /// What a value is read as by its form: its one text, or none where it has no reading. White space at its ends belongs to
 /// it: `pur_csstok::split` gives values without.
 ///
-/// `inherit`, in letters of either case, is read whatever the form is. A URL is read where its URI may be embedded: `gate`
-/// admits it, and `permits` says which schemes are permitted. What was read is read as itself.
+/// `inherit`, in letters of either case, is read whatever the form is. A URL is read where its URI may be embedded under the
+/// settings and the gate. What was read is read as itself.
 ///
 /// The error is want of memory.
 #[tactic(auto, unfolding(crate::specs::Forms::value_read))]
-pub fn read_value<F: UriTest, P: Fn(SchemeName) -> bool + Drop>(
+pub fn read_value<F: UriTest>(
     alloc: Global,
-    form: ValueForm,
+    settings: &Settings,
     gate: &UriGate<F>,
-    permits: P,
+    form: ValueForm,
     raw: &str,
 ) -> Result<Option<String>, AllocError>
-    requires { P.IsAlwaysCallable permits }
-    ensures { IfOk result (λ value. (permitted : SchemeName → Bool) → Tells P.post permits permitted → option_map text_of value ≡ value_read permitted gate.now form (chars raw.now)) }
+    ensures { IfOk result (λ value. option_map text_of value ≡ value_read settings.now gate.now form (chars raw.now)) }
 {
     if let Some(word) = read_keyword(alloc, Keywords::Inherit, raw)? {
         return Ok(Some(word));
     }
-    read_form(alloc, form, gate, permits, raw)
+    read_form(alloc, settings, gate, form, raw)
 }
 
 #[tactic(auto, unfolding(crate::specs::Forms::form_read))]
-fn read_form<F: UriTest, P: Fn(SchemeName) -> bool + Drop>(
+fn read_form<F: UriTest>(
     alloc: Global,
-    form: ValueForm,
+    settings: &Settings,
     gate: &UriGate<F>,
-    permits: P,
+    form: ValueForm,
     raw: &str,
 ) -> Result<Option<String>, AllocError>
-    requires { P.IsAlwaysCallable permits }
-    ensures { IfOk result (λ value. (permitted : SchemeName → Bool) → Tells P.post permits permitted → option_map text_of value ≡ form_read permitted gate.now form (chars raw.now)) }
+    ensures { IfOk result (λ value. option_map text_of value ≡ form_read settings.now gate.now form (chars raw.now)) }
 {
     match form {
         ValueForm::Word(form) => read_word(alloc, form, raw),
-        ValueForm::Image => read_image(alloc, gate, permits, raw),
+        ValueForm::Image => read_image(alloc, settings, gate, raw),
         ValueForm::Families => read_families(alloc, raw),
         ValueForm::Words(form) => read_words(alloc, form, raw),
         ValueForm::Border => read_border(alloc, raw),

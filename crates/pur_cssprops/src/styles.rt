@@ -5,7 +5,6 @@ ghost use Rattle.pur_csstok.specs.Declarations.{declaration_body};
 ghost use Rattle.pur_csstok.specs.Written.{pair_of};
 ghost use Rattle.pur_text.specs.Texts.{text_of};
 ghost use Rattle.pur_names.specs.Properties.{prop_named};
-ghost use Rattle.pur_settings.specs.Rules.{permits_a_scheme};
 ghost use Rattle.pur_cssprops.specs.Private.Held.{held, with_one, written};
 ghost use Rattle.pur_cssprops.specs.Styles.{declaration_kept, property_read, style_read};
 
@@ -15,7 +14,7 @@ use indexmap::IndexMap;
 use pur_csstok::{Declaration, split};
 use pur_names::StyleProp;
 use pur_settings::Settings;
-use pur_urigate::{UriGate, UriTest};
+use pur_uripolicy::{UriGate, UriTest};
 use std::alloc::{AllocError, Global};
 
 /// The one text of a style: its declarations that are kept, each property once, where it comes first and with its last
@@ -87,13 +86,7 @@ fn read_property<F: UriTest>(
     if !settings.permits_prop(property) {
         return Ok(None);
     }
-    read_value(
-        alloc,
-        form_of(property),
-        gate,
-        |scheme| settings.permits_scheme(scheme),
-        value,
-    )
+    read_value(alloc, settings, gate, form_of(property), value)
 }
 
 /// The text of declarations; none where there are none.

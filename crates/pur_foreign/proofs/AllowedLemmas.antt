@@ -20,7 +20,7 @@ use Rattle.pur_tokens.specs.Styles.{text_or_none, with_style}
 use Rattle.pur_tokens.proofs.JoiningLaws.{only-joined}
 use Rattle.pur_tokens.specs.Tokens.{PlainToken, text_token, start_token, end_token, empty_token, hidden_token, comment_token}
 use Rattle.pur_settings.specs.Rules.{Rules, permits_element}
-use Rattle.pur_urigate.specs.HostRules.{PlainHostRule}
+use Rattle.pur_uripolicy.specs.HostRules.{PlainHostRule}
 use Rattle.pur_foreign.specs.Removal.{element_in, attributes_in, is_admitted, tag_image, end_image, image_of, without_foreign}
 use Rattle.pur_foreign.specs.Strict.{size_named, size_of, declaration, font_style, style_text, attributes_left}
 

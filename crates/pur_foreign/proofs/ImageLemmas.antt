@@ -10,7 +10,7 @@ use Rattle.pur_tokens.specs.Joining.{is_some_token, has_no_empty_text, has_no_ne
 use Rattle.pur_tokens.specs.Tokens.{PlainToken, text_token, start_token, end_token, empty_token, hidden_token, comment_token}
 use Rattle.pur_tokens.proofs.JoiningLaws.{count-append, count-joined, neighbours-joined, some-joined}
 use Rattle.pur_settings.specs.Rules.{Rules, permits_element}
-use Rattle.pur_urigate.specs.HostRules.{PlainHostRule}
+use Rattle.pur_uripolicy.specs.HostRules.{PlainHostRule}
 use Rattle.pur_foreign.specs.Removal.{element_in, attributes_in, is_admitted, tag_image, end_image, image_of, without_foreign}
 
 -- what stands for a tag has what that tag has, where it stands

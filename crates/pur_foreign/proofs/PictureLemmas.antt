@@ -11,8 +11,8 @@ use Rattle.pur_tokens.specs.Pictures.{has_good_picture, is_good_tag}
 use Rattle.pur_tokens.specs.Tokens.{PlainToken, text_token, start_token, end_token, empty_token, hidden_token, comment_token}
 use Rattle.pur_tokens.proofs.JoiningLaws.{all-joined}
 use Rattle.pur_settings.specs.Rules.{Rules, permits_element}
-use Rattle.pur_siterule.specs.Uses.{has_source}
-use Rattle.pur_urigate.specs.HostRules.{PlainHostRule}
+use Rattle.pur_uripolicy.specs.Admissible.{has_source}
+use Rattle.pur_uripolicy.specs.HostRules.{PlainHostRule}
 use Rattle.pur_foreign.specs.Removal.{element_in, attributes_in, is_admitted, tag_image, end_image, image_of, without_foreign}
 
 module _ (rules : Rules) (rule : PlainHostRule) where

@@ -9,7 +9,7 @@ use Rattle.pur_tokens.specs.declared.tokens.Token.{Token}
 use Rattle.pur_names.specs.declared.elements.Element.{Element}
 use Rattle.pur_names.specs.Elements.{element_name}
 use Rattle.pur_settings.specs.Rules.{Rules, permits_element}
-use Rattle.pur_urigate.specs.HostRules.{PlainHostRule}
+use Rattle.pur_uripolicy.specs.HostRules.{PlainHostRule}
 use Rattle.pur_foreign.specs.Removal.{element_in, attributes_in, is_admitted, tag_image, end_image, image_of, without_foreign}
 use Rattle.pur_foreign.specs.Keeping.{kept_behind}
 

@@ -11,7 +11,7 @@ use Rattle.pur_tokens.specs.Joining.{has_no_empty_text, is_some_token}
 use Rattle.pur_tokens.specs.Tokens.{PlainToken, shows_only, text_token, start_token, end_token, empty_token, hidden_token, comment_token}
 use Rattle.pur_tokens.proofs.JoiningLaws.{shown-joined}
 use Rattle.pur_settings.specs.Rules.{Rules, permits_element, permits_found, permits_name}
-use Rattle.pur_urigate.specs.HostRules.{PlainHostRule}
+use Rattle.pur_uripolicy.specs.HostRules.{PlainHostRule}
 use Rattle.pur_foreign.specs.Removal.{element_in, attributes_in, is_admitted, tag_image, end_image, image_of, without_foreign}
 
 named : (rules : Rules) (e : Element) → permits_element rules e ≡ true → permits_name rules (element_name e) ≡ true

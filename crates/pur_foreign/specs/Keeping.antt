@@ -7,7 +7,7 @@ use Rattle.pur_tokens.specs.Joining.{held_before}
 use Rattle.pur_tokens.specs.Tokens.{PlainToken, end_token}
 use Rattle.pur_tokens.specs.declared.tokens.Tag.{Tag}
 use Rattle.pur_settings.specs.Rules.{Rules}
-use Rattle.pur_urigate.specs.HostRules.{PlainHostRule}
+use Rattle.pur_uripolicy.specs.HostRules.{PlainHostRule}
 use Rattle.pur_foreign.specs.Removal.{without_foreign}
 
 -- the tag that stays of another, as the token that `tag` makes of it, or none

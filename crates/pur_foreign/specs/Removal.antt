@@ -9,8 +9,8 @@ use Rattle.pur_tokens.specs.Attributes.{Attribute}
 use Rattle.pur_tokens.specs.Tokens.{PlainToken, text_token, start_token, end_token, empty_token, hidden_token, comment_token}
 use Rattle.pur_tokens.specs.Joining.{joined}
 use Rattle.pur_settings.specs.Rules.{Rules, permits_element}
-use Rattle.pur_urigate.specs.HostRules.{PlainHostRule}
-use Rattle.pur_siterule.specs.Uses.{has_source}
+use Rattle.pur_uripolicy.specs.HostRules.{PlainHostRule}
+use Rattle.pur_uripolicy.specs.Admissible.{has_source}
 use Rattle.pur_foreign.specs.Strict.{strict_element, strict_attributes}
 
 -- the element that stands for another in a doctype

@@ -8,8 +8,8 @@ ghost use Rattle.std.specs.List.{list_all};
 ghost use Rattle.pur_text.specs.Characters.{is_allowed};
 ghost use Rattle.pur_tokens.specs.Characters.{token_has_only};
 ghost use Rattle.pur_tokens.specs.Pictures.{has_good_picture};
-ghost use Rattle.pur_siterule.specs.Uses.{has_source};
-ghost use Rattle.pur_urigate.specs.HostRules.{PlainHostRule};
+ghost use Rattle.pur_uripolicy.specs.Admissible.{has_source};
+ghost use Rattle.pur_uripolicy.specs.HostRules.{PlainHostRule};
 
 /// What stays has no neighbouring texts, and no empty text where there was none.
 pub fn kept_is_joined()

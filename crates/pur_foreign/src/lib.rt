@@ -1,5 +1,6 @@
 //! The removal of foreign elements: what has no place in the output goes, and in Strict the elements that Transitional
 //! alone has give way to others with a style. `specs/` says what stands for each token.
+//! The rows are in pur_token_rows.
 #![tactic(auto)]
 
 mod laws;

@@ -7,8 +7,8 @@ ghost use Rattle.pur_tokens.specs.Attributes.{Attribute};
 ghost use Rattle.pur_names.specs.Elements.{element_name, element_named};
 ghost use Rattle.pur_tokens.specs.Joining.{tokens_given};
 ghost use Rattle.pur_foreign.specs.Removal.{element_in, attributes_in, is_admitted, tag_image, end_image, image_of, without_foreign};
-ghost use Rattle.pur_siterule.specs.Uses.{has_source};
-ghost use Rattle.pur_urigate.specs.HostRules.{PlainHostRule};
+ghost use Rattle.pur_uripolicy.specs.Admissible.{has_source};
+ghost use Rattle.pur_uripolicy.specs.HostRules.{PlainHostRule};
 ghost use Rattle.pur_foreign.specs.Keeping.{tags_kept, ends_kept, kept_behind};
 ghost use Rattle.pur_settings.specs.Rules.{Rules};
 
@@ -16,9 +16,8 @@ use crate::strict::{strict_attributes, strict_element};
 use pur_modules::Doctype;
 use pur_names::Element;
 use pur_settings::Settings;
-use pur_siterule::read_uri;
 use pur_tokens::{AttrList, Joiner, Tag, Token};
-use pur_urigate::{UriGate, UriTest, UriUse};
+use pur_uripolicy::{UriGate, UriTest, UriUse, read_uri};
 use std::alloc::{AllocError, Global};
 use std::marker::Model;
 use std::mem;
@@ -42,11 +41,27 @@ pub fn remove_foreign<F: UriTest>(
     let mut removal = Removal::new();
     let all = mem::replace(tokens, Vec::new(alloc));
     for token in all {
-        let given = removal.put(alloc, settings, gate, token)?;
-        push_given(tokens, given)?;
+        put_token(alloc, settings, gate, &mut removal, token, tokens)?;
     }
     let last = removal.finish();
     push_given(tokens, last)?;
+    Ok(())
+}
+
+// Takes the next token, and puts what is known to stay behind the others.
+fn put_token<F: UriTest>(
+    alloc: Global,
+    settings: &Settings,
+    gate: &UriGate<F>,
+    removal: &mut Removal,
+    token: Token,
+    tokens: &mut Vec<Token>,
+) -> Result<(), AllocError>
+    ensures { OnOk result ((more : List PlainToken) → map plain_token tokens.new.items ++ kept_behind settings.now gate.now removal.new more
+        ≡ map plain_token tokens.old.items ++ kept_behind settings.now gate.now removal.old (plain_token token ∷ more)) }
+{
+    let given = removal.put(alloc, settings, gate, token)?;
+    push_given(tokens, given)?;
     Ok(())
 }
 

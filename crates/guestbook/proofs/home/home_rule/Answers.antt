@@ -1,6 +1,6 @@
 use Rattle.std.proofs.Common.{◌≡◌, ◌∙◌, ap, refl, true, false, [], Some, codes, map, string_bytes}
 use Rattle.pur_text.specs.Hosts.{is_host}
-use Rattle.pur_urigate.specs.HostRules.{in_order}
+use Rattle.pur_uripolicy.specs.HostRules.{in_order}
 use Rattle.guestbook.proofs.home.home_rule.Goals as goal
 
 own_is_host : is_host (codes "guests.example") ≡ true

@@ -1,7 +1,7 @@
 use Rattle.std.proofs.Common.{◌≡◌, ◌∙◌, ap, sym, true, not, ◌&&◌, [], List, ℕ, codes}
 use Rattle.std.specs.Option.{option_map_or}
-use Rattle.pur_urigate.specs.HostRules.{admits, admits_host, is_under}
-use Rattle.pur_urigate.proofs.SetLemmas.{any-in_order}
+use Rattle.pur_uripolicy.specs.HostRules.{admits, admits_host, is_under}
+use Rattle.pur_uripolicy.proofs.SetLemmas.{any-in_order}
 use Rattle.guestbook.specs.Home.{home}
 use Rattle.guestbook.proofs.home.leads_home.Goals as goal
 

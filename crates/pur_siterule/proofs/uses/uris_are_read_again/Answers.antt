@@ -1,5 +1,0 @@
-use Rattle.pur_siterule.proofs.UseLemmas.{read-again}
-use Rattle.pur_siterule.proofs.uses.uris_are_read_again.Goals as goal
-
-pub returns : goal.returns
-returns c = read-again (record { settles = c.reading_settles.ensures; canonical = c.text_is_canonical.ensures })

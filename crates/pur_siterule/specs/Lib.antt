@@ -1,2 +1,0 @@
-pub mod SiteRules
-pub mod Uses

@@ -1,3 +1,0 @@
-pub mod Admissible
-pub mod Asking
-pub mod HostRules

@@ -1,0 +1,4 @@
+pub mod Admissible
+pub mod Asking
+pub mod HostRules
+pub mod Laws
