@@ -9,8 +9,8 @@ use Rattle.pur_settings.specs.Rules.{Rules}
 use Rattle.pur_tokens.specs.Attributes.{Attribute, is_same_text}
 use Rattle.pur_tokens.specs.Texts.{text_of}
 use Rattle.pur_tree.specs.Nodes.{PlainElem, Nodes, elem_first, plain_elem}
-use Rattle.pur_urigate.specs.HostRules.{PlainHostRule}
-use Rattle.pur_reader.specs.Attributes.{ids_in, ids_of}
+use Rattle.pur_uripolicy.specs.HostRules.{PlainHostRule}
+use Rattle.pur_validity.specs.Attributes.{ids_in, ids_of}
 use Rattle.pur_attrs.specs.Attributes.{with_changed_attributes, with_valid_attributes}
 use Rattle.pur_attrs.specs.Ids.{with_prefix, unless_same, first_of_same, with_id, with_ids}
 use Rattle.pur_attrs.specs.Steps.{kept_attributes, completed_attributes}

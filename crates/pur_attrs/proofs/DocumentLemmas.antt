@@ -13,8 +13,8 @@ use Rattle.pur_values.specs.Tokens.{is_id}
 use Rattle.pur_tokens.specs.Attributes.{Attribute, is_distinct}
 use Rattle.pur_tree.specs.Nodes.{PlainElem, Nodes, no_nodes, text_first, elem_first, plain_elem}
 use Rattle.pur_tree.specs.Spelling.{has_allowed_characters, has_allowed_values, has_distinct_names, is_spellable, is_spellable_attribute}
-use Rattle.pur_urigate.specs.HostRules.{PlainHostRule}
-use Rattle.pur_reader.specs.Attributes.{HasValidAttributes, has_valid_values, has_required, has_one_language, each_elem, ids_in, ids_of, has_prefix, are_different}
+use Rattle.pur_uripolicy.specs.HostRules.{PlainHostRule}
+use Rattle.pur_validity.specs.Attributes.{HasValidAttributes, has_valid_values, has_required, has_one_language, each_elem, ids_in, ids_of, has_prefix, are_different}
 use Rattle.pur_attrs.specs.Attributes.{with_changed_attributes, with_valid_attributes}
 use Rattle.pur_attrs.specs.Ids.{with_prefix, ids_kept, with_id, with_ids}
 use Rattle.pur_attrs.specs.Laws.{bare_nodes, HaveSources}

@@ -20,10 +20,10 @@ use Rattle.pur_tree.specs.Nodes.{PlainElem, plain_elem}
 use Rattle.pur_tree.specs.Spelling.{has_allowed_values, is_spellable_attribute}
 use Rattle.pur_uri.specs.Laws.{is_canonical_byte}
 use Rattle.pur_uri.specs.Uris.{PlainUri, uri_of, uri_text}
-use Rattle.pur_urigate.specs.HostRules.{PlainHostRule}
-use Rattle.pur_urigate.specs.declared.uses.UriUse.TheVariants.{Embed}
-use Rattle.pur_siterule.specs.Uses.{uri_under, has_source}
-use Rattle.pur_reader.specs.Attributes.{is_canonical, is_valid_attribute, has_valid_values, has_required, are_alike, has_one_language, ids_in, value_on}
+use Rattle.pur_uripolicy.specs.HostRules.{PlainHostRule}
+use Rattle.pur_uripolicy.specs.declared.uses.UriUse.TheVariants.{Embed}
+use Rattle.pur_uripolicy.specs.Admissible.{uri_under, has_source}
+use Rattle.pur_validity.specs.Attributes.{is_canonical, is_valid_attribute, has_valid_values, has_required, are_alike, has_one_language, ids_in, value_on}
 use Rattle.pur_attrs.specs.Ids.{with_id}
 use Rattle.pur_attrs.specs.Steps.{kept_attribute, kept_attributes, with_style_in, with_name_as_id, language_told, with_language, last_segment, source_name, with_required, completed_attributes}
 use Rattle.pur_attrs.proofs.FirstLemmas.{somes, passes}

@@ -8,7 +8,7 @@ use Rattle.std.proofs.lemmas.List.{length-map}
 use Rattle.pur_tokens.specs.Attributes.{is_same_text}
 use Rattle.pur_tokens.proofs.AttributeLaws.{both_false}
 use Rattle.pur_tokens.proofs.TextLaws.{is_same_text-refl}
-use Rattle.pur_reader.specs.Attributes.{has_prefix, are_different}
+use Rattle.pur_validity.specs.Attributes.{has_prefix, are_different}
 use Rattle.pur_attrs.specs.Ids.{with_prefix, unless_same, first_of_same, ids_kept}
 
 -- those that are there

@@ -21,9 +21,9 @@ use Rattle.pur_settings.specs.Rules.{Rules, permits_attribute}
 use Rattle.pur_tokens.specs.Attributes.{Attribute, is_same_text, has_name, is_distinct, value_of, with_new}
 use Rattle.pur_tokens.proofs.AttributeLaws.{both_false, none_and_all, has_name-append}
 use Rattle.pur_tokens.proofs.TextLaws.{same_text, is_same_text-sym}
-use Rattle.pur_urigate.specs.HostRules.{PlainHostRule}
-use Rattle.pur_reader.specs.Attributes.{value_on}
-use Rattle.pur_attrs.specs.Private.Parts.{value_read}
+use Rattle.pur_uripolicy.specs.HostRules.{PlainHostRule}
+use Rattle.pur_validity.specs.Attributes.{attribute_read, value_on}
+use Rattle.pur_attrs.specs.Private.Parts.{with_one}
 use Rattle.pur_attrs.specs.Steps.{name_as_id, kept_attribute}
 
 -- what has no length is empty
@@ -36,6 +36,11 @@ none-left it e = nil_from_length _ (omega (arith, e, it.rest.ok.0))
 abbrev pub put_all : List Attribute → List Attribute → List Attribute
 put_all done [] = done
 put_all done (pair ∷ more) = put_all (with_new done pair.0 pair.1) more
+
+-- one more in front of others
+pub put-one : (done : List Attribute) (pair : Option Attribute) (more : List Attribute) → put_all (with_one done pair) more ≡ put_all done (cons_option pair more)
+put-one done None more = refl
+put-one done (Some pair) more = refl
 
 -- in a list with distinct names no name in front is the one of a pair behind
 name-apart : (done : List Attribute) (pair : Attribute) (more : List Attribute) → is_distinct (done ++ pair ∷ more) ≡ true → has_name done pair.0 ≡ false
@@ -154,7 +159,7 @@ distinct-as_id (pair ∷ attrs) none apart =
 
 -- what stays is the name with what the value is read as
 pub kept-read : (rules : Rules) (rule : PlainHostRule) (element : Element) (pair : Attribute)
-    → kept_attribute rules rule element pair ≡ option_map (λ value. (pair.0, value)) (value_read rules rule element pair.0 pair.1)
+    → kept_attribute rules rule element pair ≡ option_map (λ value. (pair.0, value)) (attribute_read rules rule element pair.0 pair.1)
 kept-read rules rule element pair = go (attr_named pair.0)
   where
     named : (attr : Attr) (b : Bool) → cond b (option_map {U = Attribute} (λ value. (pair.0, value)) (value_on rules rule element attr pair.1)) None
@@ -167,46 +172,3 @@ kept-read rules rule element pair = go (attr_named pair.0)
         ≡ option_map (λ value. (pair.0, value)) (option_and_then (λ attr. cond (permits_attribute rules element attr) (value_on rules rule element attr pair.1) None) o)
     go None = refl
     go (Some attr) = named attr (permits_attribute rules element attr)
-
--- ---- names as bytes
-
-found-passes : (test : Attr → Bool) (attrs : List Attr) (found : Attr) → find test attrs ≡ Some found → test found ≡ true
-found-passes test [] found is = absurd (cc)
-found-passes test (attr ∷ attrs) found is = go (test attr) refl is (found-passes test attrs found)
-  where
-    go : (b : Bool) → test attr ≡ b → cond b (Some attr) (find test attrs) ≡ Some found → (find test attrs ≡ Some found → test found ≡ true)
-        → test found ≡ true
-    go true e here rest = ap test (sym (same_Some attr found here)) ∙ e
-    go false e here rest = rest here
-
-names-plain : (attr : Attr) → list_all is_ascii (attr_name attr) ≡ true
-names-plain = each_attr (λ attr. list_all is_ascii (attr_name attr)) refl
-
--- what is looked up has the name
-pub named-is : (text : List ℕ) (found : Attr) → attr_named text ≡ Some found → attr_name found ≡ text
-unfolding attr_named
-named-is text found is = (bytes_eq-Decides (attr_name found) text).0 (found-passes (λ a. bytes_eq (attr_name a) text) all_attrs found is)
-
-named-plain : (text : List ℕ) (found : Attr) → attr_named text ≡ Some found → list_all is_ascii text ≡ true
-named-plain text found is = subst (λ t. list_all is_ascii t ≡ true) (named-is text found is) (names-plain found)
-
--- what is looked up by bytes is looked up by characters
-pub named-chars : (text : List ℕ) → IsUtf8 text → attr_named text ≡ attr_named (chars text)
-named-chars = read-chars attr_named named-plain
-
--- what a value is read as, where its attribute is permitted and where it isn't, and where no attribute has the name
-module _ (rules : Rules) (rule : PlainHostRule) (element : Element) (name raw : List ℕ) where
-  pub read-permitted : (attr : Attr) → attr_named name ≡ Some attr → permits_attribute rules element attr ≡ true
-      → value_on rules rule element attr raw ≡ value_read rules rule element name raw
-  read-permitted attr found permits =
-      sym (ap (option_and_then (λ a. cond (permits_attribute rules element a) (value_on rules rule element a raw) None)) found
-      ∙ cond-true (permits_attribute rules element attr) (value_on rules rule element attr raw) None permits)
-
-  pub read-forbidden : (attr : Attr) → attr_named name ≡ Some attr → permits_attribute rules element attr ≡ false
-      → None ≡ value_read rules rule element name raw
-  read-forbidden attr found permits =
-      sym (ap (option_and_then (λ a. cond (permits_attribute rules element a) (value_on rules rule element a raw) None)) found
-      ∙ cond-false (permits_attribute rules element attr) (value_on rules rule element attr raw) None permits)
-
-  pub read-unknown : attr_named name ≡ None → None ≡ value_read rules rule element name raw
-  read-unknown none = sym (ap (option_and_then (λ a. cond (permits_attribute rules element a) (value_on rules rule element a raw) None)) none)

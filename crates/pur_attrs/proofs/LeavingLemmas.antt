@@ -7,8 +7,8 @@ use Rattle.pur_names.specs.declared.elements.Element.{Element}
 use Rattle.pur_settings.specs.Rules.{Rules}
 use Rattle.pur_tokens.specs.Attributes.{Attribute}
 use Rattle.pur_tree.specs.Nodes.{PlainElem, Nodes, no_nodes, text_first, elem_first, plain_elem}
-use Rattle.pur_urigate.specs.HostRules.{PlainHostRule}
-use Rattle.pur_reader.specs.Attributes.{HasValidAttributes, has_required, has_one_language, has_valid_values, each_elem, ids_in, ids_of}
+use Rattle.pur_uripolicy.specs.HostRules.{PlainHostRule}
+use Rattle.pur_validity.specs.Attributes.{HasValidAttributes, has_required, has_one_language, has_valid_values, each_elem, ids_in, ids_of}
 use Rattle.pur_attrs.specs.Attributes.{with_changed_attributes, with_valid_attributes}
 use Rattle.pur_attrs.specs.Ids.{ids_kept, with_id, with_ids}
 use Rattle.pur_attrs.specs.Steps.{kept_attributes, completed_attributes}

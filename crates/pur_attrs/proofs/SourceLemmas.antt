@@ -7,9 +7,10 @@ use Rattle.pur_tokens.specs.Attributes.{Attribute, is_same_text, has_name, value
 use Rattle.pur_tokens.proofs.AttributeLaws.{value_of-absent}
 use Rattle.pur_tokens.proofs.TextLaws.{same_text, is_same_text-refl}
 use Rattle.pur_uri.specs.Uris.{PlainUri, uri_of}
+use Rattle.pur_validity.specs.Attributes.{source_in}
 use Rattle.pur_attrs.specs.Ids.{with_id}
 use Rattle.pur_attrs.specs.Steps.{with_language}
-use Rattle.pur_attrs.specs.Private.Parts.{source_of, source_in}
+use Rattle.pur_attrs.specs.Private.Parts.{source_of}
 use Rattle.pur_attrs.proofs.ElementLemmas.{language-other}
 use Rattle.pur_attrs.proofs.PairLemmas.{value_of-with_other, value_of-without_other, value_of-new_other}
 

@@ -15,8 +15,8 @@ use Rattle.pur_tree.specs.Places.{Place, fragment, inside, level_limit}
 use Rattle.pur_tree.specs.Properties.{Property, Holds, free, permitted}
 use Rattle.pur_tree.specs.Walks.{count_in_text}
 use Rattle.pur_tree.specs.Words.{word_of, IsWord, HaveWords}
-use Rattle.pur_urigate.specs.HostRules.{PlainHostRule}
-use Rattle.pur_reader.specs.Attributes.{ids_in, ids_of}
+use Rattle.pur_uripolicy.specs.HostRules.{PlainHostRule}
+use Rattle.pur_validity.specs.Attributes.{ids_in, ids_of}
 use Rattle.pur_attrs.specs.Attributes.{with_changed_attributes, with_valid_attributes}
 use Rattle.pur_attrs.specs.Ids.{ids_kept, with_id, with_ids}
 use Rattle.pur_attrs.specs.Laws.{bare_nodes, KeepsForests, KeepsWords}

@@ -22,8 +22,8 @@ use Rattle.pur_tokens.specs.Styles.{with_style, text_or_none}
 use Rattle.pur_tokens.proofs.AttributeLaws.{without-absent}
 use Rattle.pur_tokens.proofs.TextLaws.{same_text}
 use Rattle.pur_tree.specs.Spelling.{has_allowed_values}
-use Rattle.pur_urigate.specs.HostRules.{PlainHostRule}
-use Rattle.pur_reader.specs.Attributes.{is_canonical, is_valid_attribute}
+use Rattle.pur_uripolicy.specs.HostRules.{PlainHostRule}
+use Rattle.pur_validity.specs.Attributes.{is_canonical, is_valid_attribute}
 use Rattle.pur_attrs.specs.Steps.{name_as_id, with_name_as_id, styled_by, aligned, colored, cells, style_for, with_style_in}
 use Rattle.pur_attrs.proofs.KeepingLemmas.{unnamed, no-name}
 use Rattle.pur_attrs.proofs.PairLemmas.{value_of-without_other, all-with_value, all-value_of}

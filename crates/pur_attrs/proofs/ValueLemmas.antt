@@ -42,12 +42,13 @@ use Rattle.pur_tree.specs.Spelling.{is_attr_name, is_spellable_attribute}
 use Rattle.pur_uri.specs.Escapes.{stays_in_path, stays_in_query}
 use Rattle.pur_uri.specs.Laws.{is_canonical_byte}
 use Rattle.pur_uri.specs.Uris.{PlainUri, uri_of, uri_text}
-use Rattle.pur_urigate.specs.HostRules.{PlainHostRule}
-use Rattle.pur_urigate.specs.declared.uses.UriUse.{UriUse}
-use Rattle.pur_urigate.specs.declared.uses.UriUse.TheVariants.{Embed, Link}
-use Rattle.pur_siterule.specs.Uses.{uri_under, ReadAgain, UrisAreAllowed}
+use Rattle.pur_uripolicy.specs.HostRules.{PlainHostRule}
+use Rattle.pur_uripolicy.specs.declared.uses.UriUse.{UriUse}
+use Rattle.pur_uripolicy.specs.declared.uses.UriUse.TheVariants.{Embed, Link}
+use Rattle.pur_uripolicy.specs.Admissible.{uri_under}
+use Rattle.pur_uripolicy.specs.Laws.{ReadAgain, UrisAreAllowed}
 use Rattle.pur_cssprops.specs.Styles.{style_read}
-use Rattle.pur_reader.specs.Attributes.{uri_on, value_on, is_canonical, is_valid_attribute, has_prefix}
+use Rattle.pur_validity.specs.Attributes.{uri_on, value_on, is_canonical, is_valid_attribute, has_prefix}
 use Rattle.pur_attrs.specs.Ids.{with_prefix}
 use Rattle.pur_attrs.specs.Steps.{kept_attribute}
 

@@ -5,7 +5,7 @@ use Rattle.pur_settings.specs.Rules.{Rules}
 use Rattle.pur_tokens.specs.Attributes.{Attribute}
 use Rattle.pur_tree.specs.Nodes.{Nodes, no_nodes, elem_first, plain_elem}
 use Rattle.pur_tree.specs.Walks.{walk}
-use Rattle.pur_urigate.specs.HostRules.{PlainHostRule}
+use Rattle.pur_uripolicy.specs.HostRules.{PlainHostRule}
 use Rattle.pur_attrs.specs.Ids.{with_first_ids}
 use Rattle.pur_attrs.specs.Steps.{kept_attributes, completed_attributes}
 

@@ -2,7 +2,7 @@
 use Rattle.std.specs.Prelude.{ℕ, List, [], ◌∷◌, ◌++◌, map, take, drop, length, Option, None, Some, if◌then◌else◌, codes}
 use Rattle.pur_tokens.specs.Attributes.{Attribute, is_same_text, with_value, without}
 use Rattle.pur_tree.specs.Nodes.{Nodes, no_nodes, text_first, elem_first, plain_elem}
-use Rattle.pur_reader.specs.Attributes.{ids_in, ids_of, has_prefix}
+use Rattle.pur_validity.specs.Attributes.{ids_in, ids_of, has_prefix}
 
 -- an id with the prefix in front, unless it begins with it
 abbrev pub with_prefix : List ℕ → List ℕ → List ℕ

@@ -7,13 +7,13 @@ use Rattle.pur_settings.specs.Prefixes.{begins_an_id}
 use Rattle.pur_settings.specs.Rules.{Rules}
 use Rattle.pur_tree.specs.Forests.{IsForest}
 use Rattle.pur_tree.specs.Nodes.{Nodes, is_joined}
-use Rattle.pur_siterule.specs.Uses.{has_source}
+use Rattle.pur_uripolicy.specs.Admissible.{has_source}
 use Rattle.pur_tree.specs.Properties.{Holds, free, permitted, pictures}
 use Rattle.pur_tree.specs.Spelling.{has_allowed_characters, has_distinct_names, is_spellable}
 use Rattle.pur_tree.specs.Walks.{count_in_text}
 use Rattle.pur_tree.specs.Words.{IsWord, HaveWords}
-use Rattle.pur_urigate.specs.HostRules.{PlainHostRule}
-use Rattle.pur_reader.specs.Attributes.{HasValidAttributes}
+use Rattle.pur_uripolicy.specs.HostRules.{PlainHostRule}
+use Rattle.pur_validity.specs.Attributes.{HasValidAttributes}
 use Rattle.pur_attrs.specs.Attributes.{with_changed_attributes, with_valid_attributes}
 
 -- each picture's source is admissible

@@ -7,7 +7,7 @@ use Rattle.pur_modules.specs.declared.kinds.Doctype.TheVariants.{Strict, Transit
 use Rattle.pur_settings.specs.Rules.{Rules, default_rules}
 use Rattle.pur_tokens.specs.Attributes.{Attribute}
 use Rattle.pur_tree.specs.Nodes.{Nodes, no_nodes, text_first, elem_first, nodes_append, plain_elem}
-use Rattle.pur_urigate.specs.HostRules.{PlainHostRule}
+use Rattle.pur_uripolicy.specs.HostRules.{PlainHostRule}
 use Rattle.pur_attrs.specs.Attributes.{with_valid_attributes}
 use Rattle.pur_attrs.specs.Steps.{with_style_in}
 

@@ -12,8 +12,8 @@ use Rattle.pur_settings.specs.Rules.{Rules, permits_attribute}
 use Rattle.pur_tokens.specs.Attributes.{Attribute, is_same_text, has_name, value_of, with_value, with_new, without}
 use Rattle.pur_tokens.specs.Styles.{with_style}
 use Rattle.pur_uri.specs.Uris.{uri_of}
-use Rattle.pur_urigate.specs.HostRules.{PlainHostRule}
-use Rattle.pur_reader.specs.Attributes.{value_on}
+use Rattle.pur_uripolicy.specs.HostRules.{PlainHostRule}
+use Rattle.pur_validity.specs.Attributes.{value_on}
 
 -- ---- the name of an anchor or a picture (XHTML 1.0, section 4.10)
 

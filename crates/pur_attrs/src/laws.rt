@@ -4,13 +4,13 @@ ghost use Rattle.pur_modules.specs.declared.kinds.Content.{Content};
 ghost use Rattle.pur_modules.specs.declared.kinds.Doctype.{Doctype};
 ghost use Rattle.pur_settings.specs.Rules.{Rules};
 ghost use Rattle.pur_tree.specs.Nodes.{Nodes};
-ghost use Rattle.pur_urigate.specs.HostRules.{PlainHostRule};
+ghost use Rattle.pur_uripolicy.specs.HostRules.{PlainHostRule};
 ghost use Rattle.pur_attrs.specs.Laws.{GivesValidAttributes, GivesSpellable, LeavesValid, KeepsNodes, KeepsFree, KeepsPermitted, KeepsForests, KeepsWords, KeepsCounts};
 ghost use Rattle.pur_attrs.specs.Rows.{LeavesOutTheSecondId, PutsThePrefix, PutsThePrefixOnce, PutsThePrefixFirst, GoesInDocumentOrder, KeepsNoIdUnlessIdsAreOn, MakesANameAnId, DropsANameBesideAnId, DropsANameBesideAnUnreadId, DropsOtherNames, TellsBothLanguages, TellsTheLanguageOfXml, TellsTheLanguageAtTheEnd, PutsADirection, KeepsADirection, KeepsWhatIsRequired, KeepsWhatIsListed, ReadsValues, ReadsClasses, StylesWhatStrictLacks, StylesWhatIsBehind, StylesText, PutsStylesInFront, StylesNothingInTransitional, ReadsStylesAndLinks, DropsScripts, ReadsLinks, NamesPictures, NamesPicturesByTheLastSegment, DropsDeniedHosts, KeepsOtherHosts};
 
 use pur_cssprops::{styles_are_allowed, styles_are_read_as_themselves};
-use pur_siterule::{uris_are_allowed, uris_are_read_again};
 use pur_uri::text_is_canonical;
+use pur_uripolicy::{uris_are_allowed, uris_are_read_again};
 use pur_values::{canonical_is_read_as_itself, values_are_allowed};
 
 /// What comes out is valid in its attributes.

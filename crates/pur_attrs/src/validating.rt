@@ -6,8 +6,9 @@ ghost use Rattle.pur_tree.specs.Nodes.{Nodes, no_nodes};
 ghost use Rattle.pur_tree.specs.Spelling.{has_distinct_names};
 ghost use Rattle.pur_tokens.specs.Attributes.{is_distinct};
 ghost use Rattle.pur_attrs.specs.Attributes.{with_valid_attributes};
-ghost use Rattle.pur_attrs.specs.Steps.{kept_attributes};
-ghost use Rattle.pur_attrs.specs.Private.Along.{seen_in, seen_behind, prefixed_ids, attributes_behind, ids_put, valid_behind};
+ghost use Rattle.pur_attrs.specs.Steps.{completed_attributes, kept_attributes};
+ghost use Rattle.pur_attrs.specs.Private.Along.{seen_in, seen_behind, prefixed_ids, with_id_behind, attributes_behind, ids_put, valid_behind};
+ghost use Rattle.pur_attrs.specs.Private.Parts.{source_of};
 
 use crate::completing::complete;
 use crate::ids::keep_first_id;
@@ -17,7 +18,8 @@ use pur_names::Element;
 use pur_settings::Settings;
 use pur_tokens::AttrList;
 use pur_tree::{Elem, Forest, Node};
-use pur_urigate::{UriGate, UriTest};
+use pur_uri::Uri;
+use pur_uripolicy::{UriGate, UriTest};
 use std::alloc::{AllocError, Global};
 use std::collections::BTreeSet;
 use std::mem;
@@ -132,7 +134,24 @@ fn valid_attributes<F: UriTest>(
     ensures distinct { IfOk result (λ valid. is_distinct valid ≡ true) }
 {
     let Kept { mut attrs, source } = kept_attributes(alloc, settings, gate, element, attrs)?;
-    keep_first_id(alloc, settings.id_prefix(), seen, &mut attrs)?;
-    complete(alloc, element, &source, &mut attrs)?;
+    finish(alloc, settings, seen, element, &source, &mut attrs)?;
     Ok(attrs)
+}
+
+// Makes the id of attributes that are kept the first of its text, and puts in what they lack, where ids were seen before.
+fn finish(
+    alloc: Global,
+    settings: &Settings,
+    seen: &mut BTreeSet<String>,
+    element: Element,
+    source: &Option<Uri>,
+    attrs: &mut AttrList,
+) -> Result<(), AllocError>
+    requires { source.now ≡ source_of attrs.old }
+    ensures attrs { OnOk result (attrs.new ≡ completed_attributes element (with_id_behind settings.now.id_prefix (seen_in seen.old) attrs.old)) }
+    ensures seen { OnOk result ((id : List ℕ) → seen_in seen.new id ≡ seen_behind (seen_in seen.old) (prefixed_ids settings.now.id_prefix attrs.old) id) }
+{
+    keep_first_id(alloc, settings.id_prefix(), seen, attrs)?;
+    complete(alloc, element, source, attrs)?;
+    Ok(())
 }

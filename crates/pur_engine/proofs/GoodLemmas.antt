@@ -14,7 +14,7 @@ use Rattle.pur_names.specs.Elements.{element_name, element_named}
 use Rattle.pur_names.proofs.AttrLaws.{attr_named-name}
 use Rattle.pur_names.proofs.ElementLaws.{element_named-name}
 use Rattle.pur_settings.specs.Rules.{Rules, permits_element, permits_found, permits_name, permits_attribute}
-use Rattle.pur_siterule.specs.Uses.{has_source, uri_under}
+use Rattle.pur_uripolicy.specs.Admissible.{has_source, uri_under}
 use Rattle.pur_tokens.specs.Attributes.{Attribute, is_same_text, has_name, value_of}
 use Rattle.pur_tokens.specs.Pictures.{has_good_picture, is_good_tag}
 use Rattle.pur_tokens.specs.Tokens.{PlainToken, shows_only}
@@ -24,9 +24,9 @@ use Rattle.pur_tree.specs.Properties.{Holds, permitted}
 use Rattle.pur_tree.specs.Spelling.{Spells, spells_nothing, spells_text, spells_empty, spells_element}
 use Rattle.pur_tree.specs.Tokens as flat
 use Rattle.pur_uri.specs.Uris.{PlainUri, uri_text}
-use Rattle.pur_urigate.specs.HostRules.{PlainHostRule}
-use Rattle.pur_urigate.specs.declared.uses.UriUse.TheVariants.{Embed}
-use Rattle.pur_reader.specs.Attributes.{has_required, has_valid_values, is_valid_attribute, is_canonical, each_elem}
+use Rattle.pur_uripolicy.specs.HostRules.{PlainHostRule}
+use Rattle.pur_uripolicy.specs.declared.uses.UriUse.TheVariants.{Embed}
+use Rattle.pur_validity.specs.Attributes.{has_required, has_valid_values, is_valid_attribute, is_canonical, each_elem}
 use Rattle.pur_wellform.specs.Laws.{as_read}
 use Rattle.pur_engine.proofs.SpelledLemmas.{positive}
 

@@ -7,7 +7,7 @@ use Rattle.pur_foreign.specs.Removal.{without_foreign}
 use Rattle.pur_tree.specs.Nodes.{Nodes}
 use Rattle.pur_tree.specs.Tokens.{Token, tree_of}
 use Rattle.pur_tree.specs.Spelling.{spelling_of}
-use Rattle.pur_urigate.specs.HostRules.{PlainHostRule}
+use Rattle.pur_uripolicy.specs.HostRules.{PlainHostRule}
 use Rattle.pur_wellform.specs.Closing.{closed}
 use Rattle.pur_nesting.specs.Nesting.{nested, permits_of}
 use Rattle.pur_attrs.specs.Attributes.{with_valid_attributes}

@@ -3,7 +3,5 @@
 
 mod laws;
 mod passes;
-#[cfg(test)]
-mod tests;
 
 pub use passes::purify;

@@ -1,11 +1,12 @@
 // The passes in a row: from the bytes of an input to the bytes of its purification.
-ghost use Rattle.std.specs.Prelude.{◌≡◌, ◌++◌, List, true, IfOk, OnOk};
+ghost use Rattle.std.specs.Prelude.{◌≡◌, ◌++◌, [], List, true, IfOk, OnOk};
 ghost use Rattle.std.specs.List.{list_all};
 ghost use Rattle.std.specs.Str.{chars};
 ghost use Rattle.pur_lexer.specs.Lexing.{tokens_of};
+ghost use Rattle.pur_foreign.specs.Keeping.{kept_behind};
 ghost use Rattle.pur_foreign.specs.Removal.{without_foreign};
 ghost use Rattle.pur_tokens.specs.Tokens.{PlainToken};
-ghost use Rattle.pur_tokens.specs.Joining.{tokens_given};
+ghost use Rattle.pur_tokens.specs.Joining.{has_no_empty_text, tokens_given};
 ghost use Rattle.pur_tree.specs.Image.{nodes_of};
 ghost use Rattle.pur_tree.specs.Tokens.{IsTreeOf};
 ghost use Rattle.pur_wellform.specs.Closing.{closed};
@@ -14,7 +15,7 @@ ghost use Rattle.pur_wellform.specs.Standing.{can_be_closed};
 ghost use Rattle.pur_engine.specs.Ledger.{AddsNoText};
 ghost use Rattle.pur_engine.specs.Purified.{purified};
 ghost use Rattle.pur_engine.specs.Spelled.{IsSpelled};
-ghost use Rattle.pur_reader.specs.Goodness.{IsGood};
+ghost use Rattle.pur_validity.specs.Goodness.{IsGood};
 ghost use Rattle.pur_tree.specs.Forests.{IsForest};
 
 use crate::laws::{fragments_add_no_text, fragments_are_valid, good_is_kept, trees_have_sources};
@@ -26,7 +27,7 @@ use pur_settings::Settings;
 use pur_text::{clean_if_needed, cleaned_is_allowed};
 use pur_tokens::Token;
 use pur_tree::Forest;
-use pur_urigate::{UriGate, UriTest};
+use pur_uripolicy::{UriGate, UriTest};
 use pur_wellform::Closing;
 use pur_writer::write;
 use std::alloc::{AllocError, Global};
@@ -36,7 +37,7 @@ use std::alloc::{AllocError, Global};
 /// their attributes are made valid, and the fragment is spelled in one way. What is written is good: valid under the settings and
 /// the rule. A good fragment is written unchanged, so purifying twice is purifying once.
 ///
-/// The gate is asked about each URI that would stand in the fragment. `pur_siterule::host_rule` gives the rule of the settings.
+/// The gate is asked about each URI that would stand in the fragment. `pur_uripolicy::host_rule` gives the rule of the settings.
 /// The error is want of memory.
 pub fn purify<F: UriTest>(
     alloc: Global,
@@ -71,7 +72,7 @@ pub fn purify<F: UriTest>(
     Ok(output)
 }
 
-// The tree that closing makes of a text. Each token goes through all passes before the next is read, so they never stand together.
+// The tree that closing makes of a text.
 fn closed_tree<F: UriTest>(
     alloc: Global,
     settings: &Settings,
@@ -81,18 +82,67 @@ fn closed_tree<F: UriTest>(
     ensures tree { IfOk result (λ forest. IsTreeOf (nodes_of forest) (closed settings.now (without_foreign settings.now gate.now (tokens_of (chars text.now))))) }
     ensures forest { IfOk result (λ forest. IsForest (nodes_of forest)) }
 {
-    tokens_are_joined();
-    kept_is_permitted();
-    let mut lexer = Lexer::new(alloc, text);
-    let mut removal = Removal::new();
     let mut closing = Closing::new(alloc, settings);
-    'reading: while let Some(token) = lexer.next()? {
-        let kept = removal.put(alloc, settings, gate, token)?;
-        put_kept(&mut closing, kept)?;
-    }
-    put_kept(&mut closing, removal.finish())?;
+    put_all(alloc, settings, gate, text, &mut closing)?;
     let forest = closing.finish()?;
     Ok(forest)
+}
+
+// Closes what stays of a text's tokens. Each goes through all passes before the next is read, so they never stand together.
+fn put_all<F: UriTest>(
+    alloc: Global,
+    settings: &Settings,
+    gate: &UriGate<F>,
+    text: &str,
+    closing: &mut Closing<'_>,
+) -> Result<(), AllocError>
+    requires { closing.old.rules ≡ settings.now }
+    ensures { OnOk result (closed_behind closing.new [] ≡ closed_behind closing.old (without_foreign settings.now gate.now (tokens_of (chars text.now)))) }
+{
+    tokens_are_joined();
+    let mut lexer = Lexer::new(alloc, text);
+    put_left(alloc, settings, gate, &mut lexer, closing)
+}
+
+// Closes what stays of all tokens that the lexer has left.
+fn put_left<F: UriTest>(
+    alloc: Global,
+    settings: &Settings,
+    gate: &UriGate<F>,
+    lexer: &mut Lexer<'_>,
+    closing: &mut Closing<'_>,
+) -> Result<(), AllocError>
+    requires rules { closing.old.rules ≡ settings.now }
+    requires joined { has_no_empty_text lexer.old ≡ true }
+    ensures { OnOk result (closed_behind closing.new [] ≡ closed_behind closing.old (without_foreign settings.now gate.now lexer.old)) }
+{
+    kept_is_permitted();
+    let mut removal = Removal::new();
+    put_tokens(alloc, settings, gate, lexer, &mut removal, closing)?;
+    put_kept(closing, removal.finish())?;
+    Ok(())
+}
+
+// Closes what stays of the tokens that are left, but for a text that may grow.
+fn put_tokens<F: UriTest>(
+    alloc: Global,
+    settings: &Settings,
+    gate: &UriGate<F>,
+    lexer: &mut Lexer<'_>,
+    removal: &mut Removal,
+    closing: &mut Closing<'_>,
+) -> Result<(), AllocError>
+    requires rules { closing.old.rules ≡ settings.now }
+    requires can { list_all (can_be_closed settings.now) (kept_behind settings.now gate.now removal.old lexer.old) ≡ true }
+    ensures rules { OnOk result (closing.new.rules ≡ settings.now) }
+    ensures can { OnOk result (list_all (can_be_closed settings.now) (kept_behind settings.now gate.now removal.new []) ≡ true) }
+    ensures same { OnOk result (closed_behind closing.new (kept_behind settings.now gate.now removal.new []) ≡ closed_behind closing.old (kept_behind settings.now gate.now removal.old lexer.old)) }
+{
+    'reading: while let Some(token) = lexer.next()? {
+        let kept = removal.put(alloc, settings, gate, token)?;
+        put_kept(closing, kept)?;
+    }
+    Ok(())
 }
 
 // Closes what stays next of the tokens, if anything does.

@@ -19,7 +19,7 @@ use Rattle.pur_laws.proofs.Truth.{true_together}
 use Rattle.pur_tokens.specs.Attributes.{is_same_text}
 use Rattle.pur_tokens.specs.Texts.{text_of}
 use Rattle.pur_tokens.proofs.TextLaws.{same_text, is_same_text-refl, is_same_text-sym, bytes_eq-stored}
-use Rattle.pur_reader.specs.Attributes.{has_prefix}
+use Rattle.pur_validity.specs.Attributes.{has_prefix}
 use Rattle.pur_reader.specs.Private.Judging.{seen_in, seen_with}
 
 -- the bytes of an id begin with those of the prefix exactly where its characters do

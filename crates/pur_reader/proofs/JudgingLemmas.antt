@@ -7,7 +7,7 @@ use Rattle.pur_tokens.specs.Attributes.{Attribute, value_of}
 use Rattle.pur_tree.specs.Nodes.{PlainElem, Nodes, text_first, elem_first}
 use Rattle.pur_tree.specs.Words.{word_of}
 use Rattle.std.proofs.Common.{codes}
-use Rattle.pur_reader.specs.Attributes.{ids_in, ids_of, has_prefix}
+use Rattle.pur_validity.specs.Attributes.{ids_in, ids_of, has_prefix}
 use Rattle.pur_reader.specs.Private.Judging.{Seen, seen_behind, ids_right}
 use Rattle.pur_reader.proofs.SeenLemmas.{ids_right-append, seen_behind-append}
 

@@ -1,5 +1,3 @@
-pub mod AttributeLemmas
-pub mod DecidingLemmas
 mod OptionLemmas
 mod CharacterLemmas
 mod ReferenceLemmas

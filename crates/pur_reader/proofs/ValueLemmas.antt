@@ -1,23 +1,18 @@
 -- Attributes that are judged, one by one.
-use Rattle.std.proofs.Common.{◌≡◌, ℕ, zero, suc, Bool, true, false, List, [], ◌∷◌, drop, Some, None, IsUtf8, slice_get, refl, sym, ap, ◌∙◌, arith}
+use Rattle.std.proofs.Common.{◌≡◌, ℕ, zero, suc, Bool, true, false, List, [], ◌∷◌, drop, Option, Some, None, slice_get, refl, ap, ◌∙◌}
 use Rattle.std.specs.Prelude.{◌&&◌, ◌||◌, if◌then◌else◌}
-use Rattle.std.specs.List.{list_all}
+use Rattle.std.specs.Option.{option_and_then, option_map_or}
 use Rattle.std.specs.Str.{chars}
 use Rattle.std.proofs.lemmas.Option.{same_Some}
-use Rattle.pur_laws.proofs.Lists.{all-weaker}
-use Rattle.pur_laws.proofs.Texts.{is_ascii, chars_ascii}
+use Rattle.pur_laws.proofs.Texts.{chars_ascii}
 use Rattle.pur_names.specs.Attributes.{attr_name, attr_named}
 use Rattle.pur_names.specs.declared.attributes.Attr.{Attr}
 use Rattle.pur_names.specs.declared.elements.Element.{Element}
-use Rattle.pur_names.proofs.AttrLaws.{attr_named-only}
-use Rattle.std.proofs.lemmas.Bool.Decides.{nat_tests}
-use Rattle.pur_uri.specs.Escapes.{stays_in_path, stays_in_query}
-use Rattle.pur_uri.specs.Laws.{is_canonical_byte}
 use Rattle.pur_settings.specs.Rules.{Rules, permits_attribute}
 use Rattle.pur_tokens.specs.Attributes.{Attribute, is_same_text, has_name, value_of, names_of, values_of}
-use Rattle.pur_urigate.specs.HostRules.{PlainHostRule}
-use Rattle.pur_reader.specs.Attributes.{is_canonical, is_valid_attribute}
-use Rattle.pur_reader.proofs.CharacterLemmas.{attr_ascii, name_chars, chars_name}
+use Rattle.pur_uripolicy.specs.HostRules.{PlainHostRule}
+use Rattle.pur_validity.specs.Attributes.{attribute_read, value_on, is_canonical, is_valid_attribute}
+use Rattle.pur_reader.proofs.CharacterLemmas.{attr_ascii}
 
 pub told : (attrs : List Attribute) (name v : List ℕ) → Some v ≡ value_of attrs name → has_name attrs name ≡ true
 told [] name v e = absurd (cc)
@@ -40,18 +35,21 @@ untold (p ∷ attrs) name e = go (is_same_text name p.0) refl e (untold attrs na
 pub attr_text : (text : List ℕ) (a : Attr) → text ≡ attr_name a → chars text ≡ attr_name a
 attr_text text a e = ap chars e ∙ chars_ascii (attr_name a) (attr_ascii a)
 
-pub known : (text : List ℕ) (a : Attr) → attr_name a ≡ text → attr_named (chars text) ≡ Some a
-known text a is = sym (attr_named-only (Some a) (chars text) (name_chars (attr_name a) text (attr_ascii a) is) tt)
+-- an attribute is valid where its value is read as itself
+pub valid-read : (rules : Rules) (rule : PlainHostRule) (e : Element) (name value : List ℕ)
+    → option_map_or (is_same_text value) (attribute_read rules rule e name value) false ≡ is_valid_attribute rules rule e (name, value)
+valid-read rules rule e name value = go (attr_named name)
+  where
+    permitted : (b : Bool) (read : Option (List ℕ))
+        → option_map_or (is_same_text value) (if b then read else None) false ≡ (b && option_map_or (is_same_text value) read false)
+    permitted true read = refl
+    permitted false read = refl
 
-pub unknown : (text : List ℕ) → IsUtf8 text → ((a : Attr) → attr_name a ≡ text → ⊥) → attr_named (chars text) ≡ None
-unknown text is none = sym (attr_named-only None (chars text) tt (λ a e. none a (chars_name (attr_name a) text is (attr_ascii a) e)))
-
-module _ (rules : Rules) (rule : PlainHostRule) (e : Element) (name value : List ℕ) where
-  pub valid_known : (a : Attr) → attr_named name ≡ Some a → is_valid_attribute rules rule e (name, value) ≡ (permits_attribute rules e a && is_canonical rules rule e a value)
-  valid_known a h = rw h refl
-
-  pub valid_unknown : attr_named name ≡ None → is_valid_attribute rules rule e (name, value) ≡ false
-  valid_unknown h = rw h refl
+    go : (found : Option Attr)
+        → option_map_or (is_same_text value) (option_and_then (λ attr. if permits_attribute rules e attr then value_on rules rule e attr value else None) found) false
+        ≡ option_map_or (λ attr. permits_attribute rules e attr && is_canonical rules rule e attr value) found false
+    go None = refl
+    go (Some attr) = permitted (permits_attribute rules e attr) (value_on rules rule e attr value)
 
 -- the attribute at a place
 pub attribute_at : (attrs : List Attribute) (at : ℕ) (n v : List ℕ) → slice_get (names_of attrs) at ≡ Some n → slice_get (values_of attrs) at ≡ Some v
@@ -59,11 +57,3 @@ pub attribute_at : (attrs : List Attribute) (at : ℕ) (n v : List ℕ) → slic
 attribute_at [] at n v e f = absurd (cc)
 attribute_at (p ∷ attrs) zero n v e f = ap (λ x. (x, p.1) ∷ attrs) (same_Some _ _ e) ∙ ap (λ x. (n, x) ∷ attrs) (same_Some _ _ f)
 attribute_at (p ∷ attrs) (suc at) n v e f = attribute_at attrs at n v e f
-
--- the text of a URI is plain
-canonical-ascii : (b : ℕ) → is_canonical_byte b ≡ true → is_ascii b ≡ true
-unfolding is_canonical_byte stays_in_query stays_in_path
-canonical-ascii b is = grind (arith, nat_tests)
-
-pub plain-characters : (text : List ℕ) → list_all is_canonical_byte text ≡ true → list_all is_ascii text ≡ true
-plain-characters = all-weaker is_canonical_byte is_ascii canonical-ascii

@@ -12,9 +12,9 @@ use Rattle.pur_modules.specs.Contents.{content_held, is_excluded, is_excluded_in
 use Rattle.pur_settings.specs.Rules.{Rules, permits_element}
 use Rattle.pur_tree.specs.Nodes.{PlainElem, Nodes, no_nodes, text_first, elem_first, level_of}
 use Rattle.pur_tree.specs.Places.{level_limit}
-use Rattle.pur_urigate.specs.HostRules.{PlainHostRule}
-use Rattle.pur_reader.specs.Attributes.{has_valid_values, has_required, has_one_language, each_elem}
-use Rattle.pur_reader.specs.Deciding.{are_word, are_right, are_valid, have_valid_ids, have_valid_structure, have_valid_attributes}
+use Rattle.pur_uripolicy.specs.HostRules.{PlainHostRule}
+use Rattle.pur_validity.specs.Attributes.{has_valid_values, has_required, has_one_language, each_elem}
+use Rattle.pur_validity.specs.Deciding.{are_word, are_right, are_valid, have_valid_ids, have_valid_structure, have_valid_attributes}
 use Rattle.pur_reader.specs.Private.Judging.{is_excluded_by, is_right_here, has_right_attributes, right_within}
 
 -- ---- what excludes an element

@@ -1,8 +1,2 @@
-pub mod Attributes
-pub mod Validity
-pub mod Goodness
-pub mod Deciding
-pub mod Rows
-pub mod AttributeRows
 pub mod Laws
 pub mod Private

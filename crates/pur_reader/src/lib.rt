@@ -1,9 +1,7 @@
-//! What a good fragment is: which nodes are valid under settings, and which bytes are the spelling of valid nodes.
+//! Which nodes bytes spell, and whether nodes are valid.
 //!
-//! The definitions stand on names, nodes, content models, values, URIs, styles and settings alone, and share nothing with the
-//! passes of the filter. What is valid of attributes (`specs/Attributes.antt`) is part of validity.
-//! `read_fragment` tells which nodes bytes spell, and `valid` whether nodes are valid; `specs/Private/` has what only serves their
-//! proofs.
+//! `read_fragment` tells which nodes bytes spell, and `valid` whether nodes are valid (pur_validity says what that is), in walks that
+//! no pass of the filter shares, and no pass stands on this crate; `specs/Private/` has what only serves their proofs.
 #![tactic(auto)]
 
 mod cuts;
@@ -11,15 +9,10 @@ mod escapes;
 mod laws;
 mod reading;
 mod tags;
-#[cfg(test)]
-mod tests;
 mod validity;
 mod values;
 mod words;
 
-pub use laws::{
-    attribute_examples, attributes_are_decided, spelling_is_unique, validity_is_decided,
-    worked_examples,
-};
+pub use laws::spelling_is_unique;
 pub use reading::read_fragment;
 pub use validity::valid;

@@ -4,11 +4,10 @@ ghost use Rattle.std.specs.Str.{chars};
 ghost use Rattle.pur_modules.specs.Contents.{content_held};
 ghost use Rattle.pur_tree.specs.Image.{nodes_of, node_before};
 ghost use Rattle.pur_tree.specs.Nodes.{Nodes, plain_elem};
-ghost use Rattle.pur_reader.specs.Attributes.{ids_of, ids_in};
-ghost use Rattle.pur_reader.specs.Validity.{IsValid};
+ghost use Rattle.pur_validity.specs.Attributes.{ids_of, ids_in};
+ghost use Rattle.pur_validity.specs.Validity.{IsValid};
 ghost use Rattle.pur_reader.specs.Private.Judging.{is_excluded_by, is_right_here, has_right_attributes, right_within, seen_in, seen_behind, ids_right};
 
-use crate::laws::validity_is_decided;
 use crate::values::has_right_attributes;
 use crate::words::are_word;
 use pur_modules::{Content, content_of, excludes};
@@ -16,7 +15,8 @@ use pur_names::Element;
 use pur_settings::Settings;
 use pur_tokens::AttrList;
 use pur_tree::{Forest, Node};
-use pur_urigate::{UriGate, UriTest};
+use pur_uripolicy::{UriGate, UriTest};
+use pur_validity::validity_is_decided;
 use std::alloc::{AllocError, Global};
 use std::collections::BTreeSet;
 

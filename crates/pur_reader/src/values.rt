@@ -1,25 +1,20 @@
 // Whether the attributes of an element are right, ids aside.
 ghost use Rattle.std.specs.Prelude.{◌≡◌, false, IfOk};
-ghost use Rattle.std.specs.Option.{option_map, option_and_then, option_map_or};
+ghost use Rattle.std.specs.Option.{option_map, option_map_or};
 ghost use Rattle.std.specs.Str.{chars};
 ghost use Rattle.pur_text.specs.Texts.{text_of};
 ghost use Rattle.pur_tokens.specs.Attributes.{is_same_text, has_name};
 ghost use Rattle.pur_names.specs.Attributes.{attr_name};
 ghost use Rattle.pur_tree.specs.Nodes.{plain_elem};
-ghost use Rattle.pur_values.specs.Kinds.{kind_of};
-ghost use Rattle.pur_values.specs.Values.{value_of};
-ghost use Rattle.pur_reader.specs.Attributes.{uri_on, value_on, is_canonical, is_valid_attribute, has_valid_values, has_required, has_one_language};
+ghost use Rattle.pur_validity.specs.Attributes.{is_valid_attribute, has_valid_values, has_required, has_one_language};
 ghost use Rattle.pur_reader.specs.Private.Judging.{has_right_attributes};
 
-use pur_cssprops::canon_style;
 use pur_modules::required;
 use pur_names::{Attr, Element};
 use pur_settings::Settings;
-use pur_siterule::read_uri;
 use pur_tokens::AttrList;
-use pur_uri::text_is_canonical;
-use pur_urigate::{UriGate, UriTest, UriUse};
-use pur_values::{kind_of, read_value};
+use pur_uripolicy::{UriGate, UriTest};
+use pur_validity::{Reading, read_attribute};
 use std::alloc::{AllocError, Global};
 
 /// Whether each attribute is declared, permitted and its own reading, the required ones are there, and one language is told.
@@ -120,95 +115,16 @@ fn is_valid_attribute<F: UriTest>(
 ) -> Result<bool, AllocError>
     ensures { IfOk result (λ is. is ≡ is_valid_attribute settings.now gate.now element (chars name.now, chars value.now)) }
 {
-    match Attr::from_name(name) {
-        Some(attr) => {
-            if !settings.permits_attr(element, attr) {
-                return Ok(false);
-            }
-            let is_canonical = is_canonical(alloc, settings, gate, element, attr, value)?;
-            Ok(is_canonical)
-        }
-        None => Ok(false),
-    }
+    let read = read_attribute(alloc, settings, gate, element, name, value)?;
+    Ok(is_read_as(&read, value))
 }
 
-// Whether a value is its own reading.
-fn is_canonical<F: UriTest>(
-    alloc: Global,
-    settings: &Settings,
-    gate: &UriGate<F>,
-    element: Element,
-    attr: Attr,
-    value: &str,
-) -> Result<bool, AllocError>
-    ensures { IfOk result (λ is. is ≡ is_canonical settings.now gate.now element attr (chars value.now)) }
-{
-    let read = read_on(alloc, settings, gate, element, attr, value)?;
-    Ok(is_text(value, &read))
-}
-
-// Whether a text is there, and is this one.
-fn is_text(text: &str, read: &Option<String>) -> bool
-    ensures { result ≡ option_map_or (is_same_text (chars text.now)) (option_map text_of read.now) false }
+// Whether a value is read, and as this text.
+fn is_read_as(read: &Option<Reading>, text: &str) -> bool
+    ensures { result ≡ option_map_or (is_same_text (chars text.now)) (option_map (λ found. text_of found.value) read.now) false }
 {
     match read {
-        Some(read) => is_same(text, read.as_str()),
+        Some(reading) => is_same(text, reading.value.as_str()),
         None => false,
-    }
-}
-
-// What a value of an attribute on an element is read as.
-fn read_on<F: UriTest>(
-    alloc: Global,
-    settings: &Settings,
-    gate: &UriGate<F>,
-    element: Element,
-    attr: Attr,
-    raw: &str,
-) -> Result<Option<String>, AllocError>
-    ensures { IfOk result (λ value. option_map text_of value ≡ value_on settings.now gate.now element attr (chars raw.now)) }
-{
-    match attr {
-        Attr::Cite | Attr::Href | Attr::Longdesc => {
-            read_as_uri(alloc, settings, gate, UriUse::Link, raw)
-        }
-        Attr::Src => read_as_uri(alloc, settings, gate, UriUse::Embed, raw),
-        Attr::Style => canon_style(alloc, settings, gate, raw),
-        _ => read_by_kind(alloc, element, attr, raw),
-    }
-}
-
-// What a value is read as by its kind, if it has one.
-fn read_by_kind(
-    alloc: Global,
-    element: Element,
-    attr: Attr,
-    raw: &str,
-) -> Result<Option<String>, AllocError>
-    ensures { IfOk result (λ value. option_map text_of value ≡ option_and_then (λ kind. value_of kind (chars raw.now)) (kind_of element attr)) }
-{
-    match kind_of(element, attr) {
-        Some(kind) => read_value(alloc, kind, raw),
-        None => Ok(None),
-    }
-}
-
-// The text of the URI that a value is read as, where it is admissible.
-fn read_as_uri<F: UriTest>(
-    alloc: Global,
-    settings: &Settings,
-    gate: &UriGate<F>,
-    purpose: UriUse,
-    raw: &str,
-) -> Result<Option<String>, AllocError>
-    ensures { IfOk result (λ value. option_map text_of value ≡ uri_on settings.now gate.now purpose (chars raw.now)) }
-{
-    text_is_canonical();
-    match read_uri(alloc, settings, gate, purpose, raw)? {
-        Some(uri) => {
-            let text = uri.write(alloc)?;
-            Ok(Some(text))
-        }
-        None => Ok(None),
     }
 }

@@ -7,7 +7,7 @@ ghost use Rattle.pur_modules.specs.Expressions.{has_text_letter};
 ghost use Rattle.pur_tree.specs.Image.{nodes_of, node_before};
 ghost use Rattle.pur_tree.specs.Nodes.{Nodes};
 ghost use Rattle.pur_tree.specs.Words.{word_of};
-ghost use Rattle.pur_reader.specs.Deciding.{are_word};
+ghost use Rattle.pur_validity.specs.Deciding.{are_word};
 
 use pur_models::{matches, model, words_are_decided};
 use pur_modules::{Child, Content, Doctype, text_allowed};

@@ -1,13 +1,9 @@
 -- Parts of what becomes of the attributes of one element.
-use Rattle.std.specs.Prelude.{ℕ, List, [], ◌++◌, map, Option, None, if◌then◌else◌, codes, encode_utf8_all}
+use Rattle.std.specs.Prelude.{ℕ, List, [], ◌++◌, map, Option, None, Some, if◌then◌else◌, codes, encode_utf8_all}
 use Rattle.std.specs.Option.{option_and_then, option_map_or}
 use Rattle.pur_names.specs.declared.elements.Element.{Element}
-use Rattle.pur_names.specs.Attributes.{attr_named}
-use Rattle.pur_settings.specs.Rules.{Rules, permits_attribute}
-use Rattle.pur_tokens.specs.Attributes.{Attribute, is_same_text, has_name, value_of, without}
+use Rattle.pur_tokens.specs.Attributes.{Attribute, has_name, value_of, with_new, without}
 use Rattle.pur_uri.specs.Uris.{PlainUri, uri_of}
-use Rattle.pur_urigate.specs.HostRules.{PlainHostRule}
-use Rattle.pur_reader.specs.Attributes.{value_on}
 use Rattle.pur_attrs.specs.Steps.{name_as_id, styled_by, aligned, colored, cells}
 
 -- attributes in which a `name` is the `id` in its place, or goes where there is one
@@ -28,15 +24,11 @@ nowrap_style element attrs = styled_by cells element (λ value. codes "white-spa
 abbrev pub declared : List ℕ → Option (List ℕ) → List ℕ
 declared property found = option_map_or (λ value. property ++ codes ":" ++ value ++ codes ";") found []
 
--- what a value is read as, where its attribute is permitted on the element
-abbrev pub value_read : Rules → PlainHostRule → Element → List ℕ → List ℕ → Option (List ℕ)
-value_read rules rule element name raw =
-    option_and_then (λ attr. if permits_attribute rules element attr then value_on rules rule element attr raw else None) (attr_named name)
-
 -- the URI that the `src` among attributes writes
 abbrev pub source_of : List Attribute → Option PlainUri
 source_of attrs = option_and_then (λ value. uri_of (encode_utf8_all value)) (value_of attrs (codes "src"))
 
--- the URI that a value writes, where the name is `src`
-abbrev pub source_in : List ℕ → List ℕ → Option PlainUri
-source_in name value = if is_same_text (codes "src") name then uri_of (encode_utf8_all value) else None
+-- attributes with one more, if there is one, unless its name is there
+abbrev pub with_one : List Attribute → Option Attribute → List Attribute
+with_one attrs None = attrs
+with_one attrs (Some pair) = with_new attrs pair.0 pair.1

@@ -12,9 +12,9 @@ use Rattle.pur_settings.specs.Rules.{Rules, permits_element}
 use Rattle.pur_text.specs.Texts.{text_of}
 use Rattle.pur_tokens.specs.Attributes.{is_same_text}
 use Rattle.pur_tree.specs.Nodes.{PlainElem, Nodes, no_nodes, text_first, elem_first}
-use Rattle.pur_urigate.specs.HostRules.{PlainHostRule}
-use Rattle.pur_reader.specs.Attributes.{has_valid_values, has_required, has_one_language, has_prefix}
-use Rattle.pur_reader.specs.Deciding.{are_word}
+use Rattle.pur_uripolicy.specs.HostRules.{PlainHostRule}
+use Rattle.pur_validity.specs.Attributes.{has_valid_values, has_required, has_one_language, has_prefix}
+use Rattle.pur_validity.specs.Deciding.{are_word}
 
 -- whether an element stands in a link or a `pre` that excludes it; no others exclude any
 abbrev pub is_excluded_by : Bool → Bool → Element → Bool

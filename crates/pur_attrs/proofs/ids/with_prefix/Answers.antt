@@ -5,7 +5,7 @@ use Rattle.std.proofs.lemmas.Bool.{cond-true, cond-false}
 use Rattle.std.proofs.lemmas.Result.{IfOk-weaker}
 use Rattle.pur_tokens.specs.Texts.{text_of}
 use Rattle.pur_tokens.proofs.TextLaws.{pushed}
-use Rattle.pur_reader.specs.Attributes.{has_prefix}
+use Rattle.pur_validity.specs.Attributes.{has_prefix}
 use Rattle.pur_attrs.specs.Ids.{with_prefix}
 use Rattle.pur_attrs.proofs.IdLemmas.{begins-alike}
 use Rattle.pur_attrs.proofs.ids.with_prefix.Goals as goal

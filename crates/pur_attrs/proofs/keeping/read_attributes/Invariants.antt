@@ -11,6 +11,6 @@ abbrev pub invariant-loop-pair : goal.invariant-loop-pair
 invariant-loop-pair g l =
     let read = kept_attribute l.settings l.gate l.element in
     record {
-      attrs : put_all l.kept (filter_map read (map attribute_of (into_iter_items l.pair-iterator))) ≡ filter_map read l.fn.attrs;
-      source : l.source ≡ source_of l.kept;
+      attrs : put_all l.kept.attrs (filter_map read (map attribute_of (into_iter_items l.pair-iterator))) ≡ filter_map read l.fn.attrs;
+      source : l.kept.source ≡ source_of l.kept.attrs;
     }

@@ -17,9 +17,8 @@ use Rattle.pur_uri.specs.Authorities.{host_len, host_of, port_value, is_port, po
 use Rattle.pur_uri.specs.Escapes.{stays_in_path, stays_in_query, normalised}
 use Rattle.pur_uri.specs.Splitting.{tidied, has_scheme, scheme_part, behind_scheme, has_authority, authority_part, behind_authority, query_part, behind_query, fragment_part, parts_of}
 use Rattle.pur_uri.specs.Uris.{fits, has_reading, reading_of, uri_of_parts, uri_of, uri_text}
-use Rattle.pur_urigate.specs.Admissible.{is_fit}
-use Rattle.pur_urigate.specs.HostRules.{is_under, admits_host, admits}
-use Rattle.pur_siterule.specs.Uses.{uri_under}
+use Rattle.pur_uripolicy.specs.HostRules.{is_under, admits_host, admits}
+use Rattle.pur_uripolicy.specs.Admissible.{is_fit, uri_under}
 use Rattle.pur_values.specs.Kinds.{kind_of, is_declared}
 use Rattle.pur_values.specs.Tokens.{distinct}
 use Rattle.pur_values.specs.Values.{value_of}

@@ -5,7 +5,7 @@ use Rattle.pur_text.specs.Cleaning.{cleaned}
 use Rattle.pur_lexer.specs.Lexing.{tokens_of}
 use Rattle.pur_tokens.specs.Characters.{token_has_only}
 use Rattle.pur_foreign.specs.Removal.{without_foreign}
-use Rattle.pur_siterule.specs.Uses.{has_source}
+use Rattle.pur_uripolicy.specs.Admissible.{has_source}
 use Rattle.pur_nesting.specs.Nesting.{permits_of}
 use Rattle.pur_engine.specs.Purified.{closed_tree}
 use Rattle.pur_engine.proofs.laws.trees_have_sources.Goals as goal

@@ -10,8 +10,8 @@ use Rattle.pur_tree.specs.Tokens.{IsTreeOf}
 use Rattle.pur_tree.specs.Walks.{count_in_text}
 use Rattle.pur_nesting.specs.Nesting.{nested, permits_of}
 use Rattle.pur_attrs.specs.Attributes.{with_valid_attributes}
-use Rattle.pur_reader.specs.Goodness.{IsGood}
-use Rattle.pur_reader.specs.Validity.{IsValid}
+use Rattle.pur_validity.specs.Goodness.{IsGood}
+use Rattle.pur_validity.specs.Validity.{IsValid}
 use Rattle.pur_engine.specs.Ledger.{count_read}
 use Rattle.pur_engine.specs.Purified.{closed_tags, closed_tree, nested_tree, purified, purified_nodes}
 use Rattle.pur_engine.proofs.FragmentLemmas.{prefix_begins, sound-tree_of, written}

@@ -4,7 +4,7 @@ use Rattle.std.specs.Str.{chars}
 use Rattle.pur_tree.specs.Image.{nodes_of, node_before}
 use Rattle.pur_tree.specs.Nodes.{plain_elem}
 use Rattle.pur_tree.proofs.NodeLemmas.{before_text, before_elem}
-use Rattle.pur_reader.specs.Attributes.{ids_in, ids_of}
+use Rattle.pur_validity.specs.Attributes.{ids_in, ids_of}
 use Rattle.pur_reader.specs.Private.Judging.{seen_in, seen_behind, ids_right}
 use Rattle.pur_reader.proofs.JudgingLemmas.{elem_ids, elem_seen, elem_right}
 use Rattle.pur_reader.proofs.validity.+have_right_ids.Goals as goal

@@ -2,7 +2,7 @@
 use Rattle.std.proofs.Common.{◌≡◌, ℕ, List, drop}
 use Rattle.std.specs.Str.{chars}
 use Rattle.pur_tree.specs.Image.{nodes_of}
-use Rattle.pur_reader.specs.Attributes.{ids_of}
+use Rattle.pur_validity.specs.Attributes.{ids_of}
 use Rattle.pur_reader.specs.Private.Judging.{seen_in, seen_behind, ids_right}
 use Rattle.pur_reader.proofs.validity.+have_right_ids.Given as goal
 

@@ -1,7 +1,7 @@
 use Rattle.std.proofs.Common.{◌≡◌, ◌∙◌, true, false, ap, sym, codes, rules, IsUtf8, refl}
 use Rattle.std.specs.Str.{chars}
 use Rattle.pur_laws.proofs.Texts.{chars_ascii}
-use Rattle.pur_reader.specs.Attributes.{has_prefix}
+use Rattle.pur_validity.specs.Attributes.{has_prefix}
 use Rattle.pur_reader.specs.Private.Judging.{seen_in, seen_with, seen_behind, ids_right}
 use Rattle.pur_reader.proofs.IdLemmas.{begins-alike, seen-bytes, seen-more}
 use Rattle.pur_reader.proofs.JudgingLemmas.{one_id, no_id, other_prefix, seen_before, fresh}

@@ -1,6 +1,6 @@
 use Rattle.std.proofs.Common.{◌≡◌, ◌∙◌, sym, ap, ap₂}
 use Rattle.pur_modules.specs.Contents.{content_held}
-use Rattle.pur_reader.specs.Deciding.{are_word}
+use Rattle.pur_validity.specs.Deciding.{are_word}
 use Rattle.pur_tree.specs.Image.{nodes_of}
 use Rattle.pur_reader.proofs.WithinLemmas.{not_permitted, excluded, word_here}
 use Rattle.pur_reader.proofs.validity.is_right_here.Goals as goal

@@ -6,8 +6,8 @@ use Rattle.pur_laws.proofs.Texts.{chars_ascii}
 use Rattle.pur_tokens.specs.Attributes.{is_same_text}
 use Rattle.pur_text.specs.Texts.{text_of}
 use Rattle.pur_tree.specs.Image.{nodes_of}
-use Rattle.pur_reader.specs.Attributes.{ids_of}
-use Rattle.pur_reader.specs.Deciding.{are_word, are_valid, have_valid_ids}
+use Rattle.pur_validity.specs.Attributes.{ids_of}
+use Rattle.pur_validity.specs.Deciding.{are_word, are_valid, have_valid_ids}
 use Rattle.pur_reader.specs.Private.Judging.{right_within, ids_right, seen_in}
 use Rattle.pur_reader.proofs.PrefixLemmas.{prefix-plain}
 use Rattle.pur_reader.proofs.SeenLemmas.{ids_whole}

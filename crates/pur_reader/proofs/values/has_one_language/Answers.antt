@@ -1,6 +1,6 @@
 use Rattle.std.proofs.Common.{◌∙◌, ap₂, refl, codes}
 use Rattle.pur_laws.proofs.Texts.{chars_ascii}
-use Rattle.pur_reader.specs.Attributes.{are_alike}
+use Rattle.pur_validity.specs.Attributes.{are_alike}
 use Rattle.pur_reader.proofs.values.has_one_language.Goals as goal
 
 pub returns-in-Some-get : goal.returns-in-Some-get

@@ -1,0 +1,3 @@
+pub mod AttributeLemmas
+pub mod DecidingLemmas
+pub mod ReadingLemmas

@@ -1,0 +1,7 @@
+pub mod Attributes
+pub mod Validity
+pub mod Goodness
+pub mod Deciding
+pub mod Rows
+pub mod AttributeRows
+pub mod Laws
