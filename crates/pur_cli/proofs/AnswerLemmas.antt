@@ -1,28 +1,68 @@
--- Answers on inputs within the limit.
-use Rattle.std.proofs.Common.{◌≡◌, ◌∙◌, ℕ, ◌≤◌, List, length, Option, ap, refl, sym, subst, rules, arith, false}
-use Rattle.std.specs.Prelude.{nat_lt}
+-- Answers on what was read, and where nothing could be.
+use Rattle.std.proofs.Common.{◌≡◌, ◌≢◌, ◌⊎◌, ◌∙◌, ℕ, ◌<◌, List, length, Option, Some, None, IfSome, true, false, ap, sym, subst, inl, inr, arith, rules, ⊎_elim}
+use Rattle.std.specs.Prelude.{nat_lt, IsSome, IsSomeAnd}
+use Rattle.std.proofs.lemmas.Bool.{cases_Bool, cond-true, cond-false}
+use Rattle.std.proofs.lemmas.Option.{IfSome_then}
+use Rattle.pur_io.specs.Texts.{Name, text_named}
 use Rattle.pur_settings.specs.Rules.{Rules}
-use Rattle.pur_cli.specs.Answers.{Answer, IsStatus, text_of, answer_by, answer_under, TookFrontOf}
-use Rattle.pur_cli.specs.Limits.{input_limit}
-use Rattle.pur_cli.specs.Writing.{TookFront}
-use Rattle.pur_cli.specs.declared.command.Work.{Work}
-use Rattle.pur_cli.specs.declared.status.Status.{Status}
+use Rattle.pur_commands.specs.Accepted.{settings_named}
+use Rattle.pur_commands.specs.Choices.{ChoseFile, ChoseSettings}
+use Rattle.pur_commands.specs.Commands.{PlainCommand, filter, check, sample, names_of}
+use Rattle.pur_commands.specs.Limits.{input_limit}
+use Rattle.pur_commands.specs.declared.status.Status.TheVariants.{SettingsRefused, InputTooLong}
+use Rattle.pur_cli.specs.Answers.{Answer, refused, filtered, checked, answer_for, answer_to}
 
--- on an input within the limit the work is done
-pub within_limit : (work : Work) (rules : Rules) (bytes text : List ℕ) → bytes ≡ text → length bytes ≤ input_limit
-    → answer_under work rules text ≡ answer_by work rules bytes
-within_limit work rules bytes text same small =
-    let fits : nat_lt input_limit (length bytes) ≡ false = grind (arith, small) in
-    ap (answer_under work rules) (sym same) ∙ rw fits refl
+none_is_none : IsSome {T = Rules} None → ⊥
+none_is_none some = search (rules, some)
 
--- a front of the answer's text was taken
-pub front_of : (work : Work) (rules : Rules) (bytes text : List ℕ) (status : Status) (before after : Option (List ℕ)) → bytes ≡ text
-    → length bytes ≤ input_limit → IsStatus (answer_by work rules bytes) status
-    → TookFront before after (text_of (answer_by work rules bytes) status) → TookFrontOf (answer_under work rules text) before after
-front_of work rules bytes text status before after same small is_status front =
-    let answer_is = sym (within_limit work rules bytes text same small) in
-    record {
-      status = status;
-      is_status = subst (λ (a : Answer). IsStatus a status) answer_is is_status;
-      front = subst (λ (a : Answer). TookFront before after (text_of a status)) answer_is front;
-    }
+-- an input past its limit is refused
+for_long : (work : Rules → List ℕ → Answer) (settings : Option Rules) (input : List ℕ) → IsSome settings → input_limit < length input
+    → answer_for work settings input ≡ refused InputTooLong
+for_long work None input some long = absurd (none_is_none some)
+for_long work (Some rules) input some long = let is : nat_lt input_limit (length input) ≡ true = grind (arith, long) in cond-true _ _ _ is
+
+-- an answer that refuses settings
+abbrev RefusesSettings : Answer → Type 0
+RefusesSettings (refused SettingsRefused) = Unit {0}
+RefusesSettings other = ⊥
+
+-- accepted settings aren't refused
+for_some : (work : Rules → List ℕ → Answer) (settings : Option Rules) (input : List ℕ)
+    → ((rules : Rules) (bytes : List ℕ) → work rules bytes ≢ refused SettingsRefused)
+    → IsSome settings → answer_for work settings input ≢ refused SettingsRefused
+for_some work None input never some = absurd (none_is_none some)
+for_some work (Some rules) input never some = ⊎_elim
+    (λ (long : nat_lt input_limit (length input) ≡ true) same. subst RefusesSettings (sym same ∙ cond-true _ _ _ long) tt)
+    (λ (fits : nat_lt input_limit (length input) ≡ false) same. never rules input (sym (cond-false _ _ _ fits) ∙ same))
+    (cases_Bool (nat_lt input_limit (length input)))
+
+filtered_is_none : (rules : Rules) (input : List ℕ) → filtered rules input ≢ refused SettingsRefused
+filtered_is_none rules input same = subst RefusesSettings (sym same) tt
+
+checked_is_none : (rules : Rules) (input : List ℕ) → checked rules input ≢ refused SettingsRefused
+checked_is_none rules input same = subst RefusesSettings (sym same) tt
+
+module _ (told : Option (List (Name × List ℕ))) where
+  -- what a command answers whose settings are refused
+  pub settings_refused : (command : PlainCommand)
+      → IsSomeAnd (names_of command) (λ names. IfSome told (λ t. settings_named t names.settings ≡ None))
+      → IfSome told (λ t. answer_to command t ≡ refused SettingsRefused)
+  settings_refused (filter names) none = IfSome_then told none (λ t is. ap (λ s. answer_for filtered s (text_named t names.input)) is)
+  settings_refused (check names) none = IfSome_then told none (λ t is. ap (λ s. answer_for checked s (text_named t names.input)) is)
+  settings_refused (sample pieces) none = absurd none
+
+  -- what a command answers whose input is too long
+  pub input_refused : (command : PlainCommand)
+      → IsSomeAnd (names_of command) (λ names. IfSome told (λ t. IsSome (settings_named t names.settings) × (input_limit < length (text_named t names.input))))
+      → IfSome told (λ t. answer_to command t ≡ refused InputTooLong)
+  input_refused (filter names) long = IfSome_then told long (λ t is. for_long filtered _ _ is.0 is.1)
+  input_refused (check names) long = IfSome_then told long (λ t is. for_long checked _ _ is.0 is.1)
+  input_refused (sample pieces) long = absurd long
+
+  -- where the input couldn't be read, the settings weren't refused
+  pub settings_stand : (command : PlainCommand) (chosen : Option Name)
+      → IsSomeAnd (names_of command) (λ names. IfSome told (λ t. ChoseFile names.settings chosen ⊎ IsSome (settings_named t names.settings)))
+      → IfSome told (λ t. ChoseSettings (names_of command) chosen ⊎ (answer_to command t ≢ refused SettingsRefused))
+  settings_stand (filter names) chosen said = IfSome_then told said (λ t. ⊎_elim inl (λ some. inr (for_some filtered _ _ filtered_is_none some)))
+  settings_stand (check names) chosen said = IfSome_then told said (λ t. ⊎_elim inl (λ some. inr (for_some checked _ _ checked_is_none some)))
+  settings_stand (sample pieces) chosen said = absurd said

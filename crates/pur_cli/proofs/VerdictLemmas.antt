@@ -1,11 +1,11 @@
 -- At most one status is true of an input.
 use Rattle.std.proofs.Common.{◌≡◌, ◌⊎◌, ◌∙◌, ℕ, List, refl, sym, inl, inr}
 use Rattle.pur_settings.specs.Rules.{Rules}
-use Rattle.pur_urigate.specs.HostRules.{PlainHostRule}
-use Rattle.pur_reader.specs.Goodness.{IsGood}
+use Rattle.pur_uripolicy.specs.HostRules.{PlainHostRule}
+use Rattle.pur_validity.specs.Goodness.{IsGood}
 use Rattle.pur_cli.specs.Verdicts.{IsVerdict, SpellNodes}
-use Rattle.pur_cli.specs.declared.status.Status.{Status}
-use Rattle.pur_cli.specs.declared.status.Status.TheVariants.{Done, OutOfMemory, BadCommandLine, SpellingFault, ValidityFault, SettingsRefused, InputTooLong, CannotRead, CannotWrite}
+use Rattle.pur_commands.specs.declared.status.Status.{Status}
+use Rattle.pur_commands.specs.declared.status.Status.TheVariants.{Done, OutOfMemory, BadCommandLine, SpellingFault, ValidityFault, SettingsRefused, InputTooLong, CannotRead, CannotWrite}
 
 -- the nodes of a good fragment are low
 spelled : {rules : Rules} {rule : PlainHostRule} {input : List ℕ} → IsGood rules rule input → SpellNodes input

@@ -1,9 +1,9 @@
 -- What is said of checks.
 use Rattle.std.specs.Prelude.{ℕ, ◌≡◌, List}
 use Rattle.pur_settings.specs.Rules.{Rules}
-use Rattle.pur_urigate.specs.HostRules.{PlainHostRule}
+use Rattle.pur_uripolicy.specs.HostRules.{PlainHostRule}
 use Rattle.pur_cli.specs.Verdicts.{IsVerdict}
-use Rattle.pur_cli.specs.declared.status.Status.{Status}
+use Rattle.pur_commands.specs.declared.status.Status.{Status}
 
 -- no two statuses are true of one input
 abbrev pub VerdictsExclude : Type 0

@@ -1,9 +1,5 @@
-pub mod Limits
-pub mod Words
-pub mod Choices
-pub mod Statuses
-pub mod Writing
 pub mod Verdicts
+pub mod Samples
 pub mod Answers
 pub mod Laws
 pub mod Private

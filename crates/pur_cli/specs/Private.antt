@@ -1,3 +1,4 @@
 -- Definitions that serve private contracts alone: no public contract says anything by them.
+pub mod Purifications
+pub mod Answering
 pub mod Ends
-pub mod Reading

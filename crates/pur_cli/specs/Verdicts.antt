@@ -4,10 +4,10 @@ use Rattle.pur_settings.specs.Rules.{Rules}
 use Rattle.pur_tree.specs.Nodes.{Nodes, level_of}
 use Rattle.pur_tree.specs.Places.{level_limit}
 use Rattle.pur_tree.specs.Spelling.{AreSpelled}
-use Rattle.pur_urigate.specs.HostRules.{PlainHostRule}
-use Rattle.pur_reader.specs.Goodness.{IsGood}
-use Rattle.pur_cli.specs.declared.status.Status.{Status}
-use Rattle.pur_cli.specs.declared.status.Status.TheVariants.{Done, SpellingFault, ValidityFault}
+use Rattle.pur_uripolicy.specs.HostRules.{PlainHostRule}
+use Rattle.pur_validity.specs.Goodness.{IsGood}
+use Rattle.pur_commands.specs.declared.status.Status.{Status}
+use Rattle.pur_commands.specs.declared.status.Status.TheVariants.{Done, SpellingFault, ValidityFault}
 
 -- nodes whose level doesn't pass the limit are spelled as the bytes (XML 1.0, in one of its spellings)
 pub record SpellNodes (bytes : List ℕ) : Type 0 where

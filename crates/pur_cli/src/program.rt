@@ -1,30 +1,26 @@
 // The program as one call over the world outside.
-ghost use Rattle.std.specs.Prelude.{◌≡◌, ◌≢◌, ◌⊎◌, ◌+◌, ◌≤◌, map, Some, None, option_map, string_bytes, IfSome};
+ghost use Rattle.std.specs.Prelude.{◌≡◌, ◌≢◌, ◌⊎◌, ◌+◌, ◌≤◌, map, Some, None, string_bytes, IfSome};
 ghost use Rattle.pur_io.specs.Faults.{Rose};
 ghost use Rattle.pur_io.specs.Taken.{taken_more};
-ghost use Rattle.pur_io.specs.Texts.{plain_name, text_named};
-ghost use Rattle.pur_siterule.specs.SiteRules.{rule_of};
-ghost use Rattle.pur_reader.specs.Goodness.{IsGood};
+ghost use Rattle.pur_io.specs.Texts.{text_named};
+ghost use Rattle.pur_uripolicy.specs.HostRules.{rule_of};
+ghost use Rattle.pur_validity.specs.Goodness.{IsGood};
 ghost use Rattle.pur_engine.specs.Ledger.{AddsNoText};
 ghost use Rattle.pur_engine.specs.Purified.{purified};
 ghost use Rattle.pur_engine.specs.Spelled.{IsSpelled};
-ghost use Rattle.pur_cli.specs.Answers.{refused, IsStatus, HasStatus, text_of, TookFrontOf, settings_named, answer_under, answer_to, answer_of};
-ghost use Rattle.pur_cli.specs.Choices.{ChoseSettings, ChoseInput};
-ghost use Rattle.pur_cli.specs.Limits.{settings_limit, input_limit};
+ghost use Rattle.pur_commands.specs.Accepted.{settings_named};
+ghost use Rattle.pur_commands.specs.Choices.{ChoseSettings, ChoseInput};
+ghost use Rattle.pur_commands.specs.Commands.{plain_command, IfFilter, IfSample};
+ghost use Rattle.pur_commands.specs.Limits.{settings_limit, input_limit};
+ghost use Rattle.pur_commands.specs.Statuses.{code_of, TookLine, TookWholeLine};
+ghost use Rattle.pur_commands.specs.Words.{command_of, names_read};
+ghost use Rattle.pur_cli.specs.Answers.{refused, IsStatus, HasStatus, text_of, TookFrontOf, answer_of};
 ghost use Rattle.pur_cli.specs.Private.Ends.{Ends};
-ghost use Rattle.pur_cli.specs.Statuses.{code_of, TookLine, TookWholeLine};
-ghost use Rattle.pur_cli.specs.Words.{plain_parts, command_of, IfFilter};
+ghost use Rattle.pur_cli.specs.Samples.{sample_line};
 
-use crate::checking::check_under;
-use crate::command::{Command, Work};
-use crate::output::{complain, write_all};
-use crate::purifying::purified_text;
-use crate::settings::{NoSettings, read_settings};
-use crate::status::Status;
-use crate::texts::{INPUT_LIMIT, ReadFault, read_text};
-use crate::words::read_words;
+use crate::answer::answer_to;
+use pur_commands::{Command, Status, complain, read_words, write_all};
 use pur_io::{Failed, Shelf, Sink};
-use pur_settings::Settings;
 use std::alloc::Global;
 
 /// Runs the program: `purify` with these words of its command line, which don't include its own name.
@@ -33,7 +29,8 @@ use std::alloc::Global;
 /// refused where it has more than 65,536 bytes or an offence; without one the settings are the defaults. Then the input is
 /// read, and refused where it has more than 1,048,576 bytes. Of each text one byte past its limit is asked for, to tell that
 /// it has one. A command that filters writes the input's purification under the settings and the rule of hosts that they give to
-/// `out`; one that checks writes whether the input is a good fragment under them, and calls no pass of the filter. The answer
+/// `out`; one that checks writes whether the input is a good fragment under them, and calls no pass of the filter; a sample reads
+/// nothing, and its line is written: the bytes of the sample and of its purification under the defaults, and the sum of these. The answer
 /// is the status that the program ends with (`Status`), and its line is written to `err`; a fault of `err` changes no status. The
 /// whole text is computed before the first write to `out`, and from there on no memory is taken.
 ///
@@ -87,61 +84,51 @@ pub fn run<H: Shelf, O: Sink, E: Sink>(
         IfFilter (command_of (map string_bytes words.now)) (λ _.
         IsSpelled (text_of (answer_of (map string_bytes words.now) texts) Status.Done))) }
     ensures good { result ≡ code_of Status.Done → IfSome (H.texts shelf.old) (λ texts.
-        IfFilter (command_of (map string_bytes words.now)) (λ command. IfSome (settings_named texts command.settings) (λ rules.
+        IfFilter (command_of (map string_bytes words.now)) (λ names. IfSome (settings_named texts names.settings) (λ rules.
         IsGood rules (rule_of rules) (text_of (answer_of (map string_bytes words.now) texts) Status.Done)))) }
     ensures adds_no_text { result ≡ code_of Status.Done → IfSome (H.texts shelf.old) (λ texts.
-        IfFilter (command_of (map string_bytes words.now)) (λ command.
-        AddsNoText (text_named texts command.input) (text_of (answer_of (map string_bytes words.now) texts) Status.Done))) }
+        IfFilter (command_of (map string_bytes words.now)) (λ names.
+        AddsNoText (text_named texts names.input) (text_of (answer_of (map string_bytes words.now) texts) Status.Done))) }
     ensures unchanged { result ≡ code_of Status.Done → IfSome (H.texts shelf.old) (λ texts.
-        IfFilter (command_of (map string_bytes words.now)) (λ command. IfSome (settings_named texts command.settings) (λ rules.
-        IsGood rules (rule_of rules) (text_named texts command.input) →
-        text_of (answer_of (map string_bytes words.now) texts) Status.Done ≡ text_named texts command.input))) }
+        IfFilter (command_of (map string_bytes words.now)) (λ names. IfSome (settings_named texts names.settings) (λ rules.
+        IsGood rules (rule_of rules) (text_named texts names.input) →
+        text_of (answer_of (map string_bytes words.now) texts) Status.Done ≡ text_named texts names.input))) }
     ensures twice { result ≡ code_of Status.Done → IfSome (H.texts shelf.old) (λ texts.
-        IfFilter (command_of (map string_bytes words.now)) (λ command. IfSome (settings_named texts command.settings) (λ rules.
+        IfFilter (command_of (map string_bytes words.now)) (λ names. IfSome (settings_named texts names.settings) (λ rules.
         purified rules (rule_of rules) (text_of (answer_of (map string_bytes words.now) texts) Status.Done)
         ≡ text_of (answer_of (map string_bytes words.now) texts) Status.Done))) }
+
+    // What a sample tells, whatever the shelf tells.
+    ensures sampled { result ≡ code_of Status.Done → IfSample (command_of (map string_bytes words.now)) (λ pieces.
+        O.taken out.new ≡ taken_more (O.taken out.old) (sample_line pieces)) }
 
     // The causes of the faults outside.
     ensures unwritten { result ≡ code_of Status.CannotWrite → Rose (O.faults out.old) (O.faults out.new) }
     ensures unread { result ≡ code_of Status.CannotRead → Rose (H.faults shelf.old) (H.faults shelf.new) }
     ensures unread_late { result ≡ code_of Status.CannotRead → Rose (H.mark shelf.new) (H.faults shelf.new) }
     ensures unread_named { result ≡ code_of Status.CannotRead →
-        ChoseSettings (command_of (map string_bytes words.now)) (H.chosen shelf.new)
-        ⊎ ChoseInput (command_of (map string_bytes words.now)) (H.chosen shelf.new) }
+        ChoseSettings (names_read (map string_bytes words.now)) (H.chosen shelf.new)
+        ⊎ ChoseInput (names_read (map string_bytes words.now)) (H.chosen shelf.new) }
     ensures unread_refused { result ≡ code_of Status.CannotRead → IfSome (H.texts shelf.old) (λ texts.
-        ChoseSettings (command_of (map string_bytes words.now)) (H.chosen shelf.new)
+        ChoseSettings (names_read (map string_bytes words.now)) (H.chosen shelf.new)
         ⊎ (answer_of (map string_bytes words.now) texts ≢ refused Status.SettingsRefused)) }
     ensures kept { result ≢ code_of Status.OutOfMemory → result ≢ code_of Status.CannotRead →
         H.faults shelf.new ≡ H.faults shelf.old }
 
     // How much is asked of the shelf, and what it keeps.
-    ensures place { result ≢ code_of Status.OutOfMemory → result ≢ code_of Status.BadCommandLine →
-        IfSome (H.texts shelf.old) (λ _. H.place shelf.new ≤ input_limit + 1) }
+    ensures place { result ≢ code_of Status.OutOfMemory → IfSome (names_read (map string_bytes words.now)) (λ _.
+        IfSome (H.texts shelf.old) (λ _. H.place shelf.new ≤ input_limit + 1)) }
     ensures place_refused { result ≡ code_of Status.SettingsRefused →
         IfSome (H.texts shelf.old) (λ _. H.place shelf.new ≤ settings_limit + 1) }
     ensures texts { H.texts shelf.new ≡ H.texts shelf.old }
+    ensures unasked { IfSample (command_of (map string_bytes words.now)) (λ _. shelf.new ≡ shelf.old) }
 
     // The line on standard error.
     ensures line { TookLine (E.taken err.old) (E.taken err.new) result }
     ensures whole_line { Rose (E.faults err.old) (E.faults err.new) ⊎ TookWholeLine (E.taken err.old) (E.taken err.new) result }
 {
     let status = match read_words(alloc, words) {
-        Ok(Some(Command::Filter { settings, input })) => obey(
-            alloc,
-            Work::Filter,
-            settings,
-            input,
-            shelf,
-            out,
-        ),
-        Ok(Some(Command::Check { settings, input })) => obey(
-            alloc,
-            Work::Check,
-            settings,
-            input,
-            shelf,
-            out,
-        ),
+        Ok(Some(command)) => obey(alloc, command, shelf, out),
         Ok(None) => Status::BadCommandLine,
         Err(_) => Status::OutOfMemory,
     };
@@ -149,74 +136,15 @@ pub fn run<H: Shelf, O: Sink, E: Sink>(
     status.code()
 }
 
-// Does the work of a command on the input that it names, under its settings.
-fn obey<H: Shelf, O: Sink>(
-    alloc: Global,
-    work: Work,
-    settings: Option<String>,
-    input: Option<String>,
-    shelf: &mut H,
-    out: &mut O,
-) -> Status
-    ensures { Ends H.Shelf O.Sink (plain_parts work settings input) (λ texts. settings_named texts (option_map string_bytes settings))
-        (answer_to (plain_parts work settings input)) shelf.old shelf.new out.old out.new result }
+// Obeys a command: its answer is computed whole, and then its text is written.
+fn obey<H: Shelf, O: Sink>(alloc: Global, command: Command, shelf: &mut H, out: &mut O) -> Status
+    ensures { Ends H.Shelf O.Sink (plain_command command) shelf.old shelf.new out.old out.new result }
 {
-    let settings = match read_settings(alloc, shelf, settings) {
-        Ok(settings) => settings,
-        Err(NoSettings::Unread) => return Status::CannotRead,
-        Err(NoSettings::Refused) => return Status::SettingsRefused,
-        Err(NoSettings::Memory) => return Status::OutOfMemory,
-    };
-    let status = work_under(alloc, work, &settings, input, shelf, out);
-    drop(settings);
-    status
-}
-
-// Does a work on the input of this name under the settings.
-fn work_under<H: Shelf, O: Sink>(
-    alloc: Global,
-    work: Work,
-    settings: &Settings,
-    name: Option<String>,
-    shelf: &mut H,
-    out: &mut O,
-) -> Status
-    ensures settings { result ≢ Status.SettingsRefused }
-    ensures chosen { H.chosen shelf.new ≡ Some (plain_name name) }
-    ensures ends { Ends H.Shelf O.Sink (record { work = work; settings = None; input = plain_name name }) (λ texts. Some settings.now)
-        (λ texts. answer_under work settings.now (text_named texts (plain_name name))) shelf.old shelf.new out.old out.new result }
-{
-    match work {
-        Work::Filter => filter_under(alloc, settings, name, shelf, out),
-        Work::Check => check_under(alloc, settings, name, shelf, out),
-    }
-}
-
-// Filters the input of this name under the settings; nothing is written before all is computed.
-fn filter_under<H: Shelf, O: Sink>(
-    alloc: Global,
-    settings: &Settings,
-    name: Option<String>,
-    shelf: &mut H,
-    out: &mut O,
-) -> Status
-    ensures settings { result ≢ Status.SettingsRefused }
-    ensures chosen { H.chosen shelf.new ≡ Some (plain_name name) }
-    ensures ends { Ends H.Shelf O.Sink (record { work = Work.Filter; settings = None; input = plain_name name }) (λ texts. Some settings.now)
-        (λ texts. answer_under Work.Filter settings.now (text_named texts (plain_name name))) shelf.old shelf.new out.old out.new result }
-{
-    let input = match read_text(alloc, shelf, name, INPUT_LIMIT) {
-        Ok(input) => input,
-        Err(ReadFault::Failed) => return Status::CannotRead,
-        Err(ReadFault::TooLong) => return Status::InputTooLong,
-        Err(ReadFault::Memory) => return Status::OutOfMemory,
-    };
-    let text = match purified_text(alloc, settings, input.as_slice()) {
-        Ok(text) => text,
-        Err(_) => return Status::OutOfMemory,
-    };
-    match write_all(out, text.as_slice()) {
-        Ok(()) => Status::Done,
-        Err(Failed) => Status::CannotWrite,
+    match answer_to(alloc, command, shelf) {
+        Ok(answer) => match write_all(out, answer.text.as_slice()) {
+            Ok(()) => answer.status,
+            Err(Failed) => Status::CannotWrite,
+        },
+        Err(status) => status,
     }
 }

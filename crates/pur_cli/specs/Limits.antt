@@ -1,9 +1,0 @@
-use Rattle.std.specs.Prelude.{ℕ}
-
--- the most bytes that a settings text may have
-abbrev pub settings_limit : ℕ
-settings_limit = 65536
-
--- the most bytes that an input may have
-abbrev pub input_limit : ℕ
-input_limit = 1048576

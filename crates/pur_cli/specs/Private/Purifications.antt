@@ -1,0 +1,17 @@
+-- What the engine promises of a purification, in one word: `run` says each of these.
+use Rattle.std.specs.Prelude.{◌≡◌, ℕ, List}
+use Rattle.pur_settings.specs.Rules.{Rules}
+use Rattle.pur_uripolicy.specs.HostRules.{PlainHostRule}
+use Rattle.pur_validity.specs.Goodness.{IsGood}
+use Rattle.pur_engine.specs.Ledger.{AddsNoText}
+use Rattle.pur_engine.specs.Purified.{purified}
+use Rattle.pur_engine.specs.Spelled.{IsSpelled}
+
+-- a text is the purification of an input under settings and a rule of hosts, and has all that is promised of it
+pub record IsPurification (rules : Rules) (rule : PlainHostRule) (input text : List ℕ) : Type 0 where
+  pub purified_is : text ≡ purified rules rule input
+  pub spelled : IsSpelled text
+  pub good : IsGood rules rule text
+  pub adds_no_text : AddsNoText input text
+  pub unchanged : IsGood rules rule input → text ≡ input
+  pub twice : purified rules rule text ≡ text

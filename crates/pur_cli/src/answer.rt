@@ -1,0 +1,40 @@
+// The answer to a command: the status and the text that a run ends with, where its text is written whole.
+ghost use Rattle.std.specs.Prelude.{◌≡◌, Some, IfOk, IfErr};
+ghost use Rattle.pur_commands.specs.Commands.{plain_command, names_of, IfSample};
+ghost use Rattle.pur_commands.specs.Sources.{Stopped};
+ghost use Rattle.pur_cli.specs.Private.Answering.{Answered};
+
+use crate::checking::check;
+use crate::purifying::filter;
+use crate::sampling::measure_sample;
+use pur_commands::{Command, Status, read_source};
+use pur_io::Shelf;
+use std::alloc::Global;
+
+// What a command answers.
+#[derive(Drop)]
+pub struct Answer {
+    // The status that the run ends with, once the text is written.
+    pub status: Status,
+    // The text on standard output.
+    pub text: Vec<u8>,
+}
+
+// The answer to a command over the texts of a shelf. The error is the status of a run that stops before it has one.
+pub fn answer_to<H: Shelf>(alloc: Global, command: Command, shelf: &mut H) -> Result<Answer, Status>
+    ensures answered { IfOk result (λ answer. Answered H.Shelf (plain_command command) shelf.old shelf.new answer.status answer.text.items) }
+    ensures stopped { IfErr result (Stopped H.Shelf (names_of (plain_command command)) (H.texts shelf.old) (H.faults shelf.old) shelf.new) }
+    ensures unasked { IfSample (Some (plain_command command)) (λ _. shelf.new ≡ shelf.old) }
+{
+    match command {
+        Command::Filter { settings, input } => {
+            let source = read_source(alloc, shelf, settings, input)?;
+            Ok(filter(alloc, &source)?)
+        }
+        Command::Check { settings, input } => {
+            let source = read_source(alloc, shelf, settings, input)?;
+            Ok(check(alloc, &source)?)
+        }
+        Command::Sample(pieces) => Ok(measure_sample(alloc, pieces)?),
+    }
+}

@@ -1,0 +1,8 @@
+use Rattle.std.proofs.Common.{◌≡◌, ◌+◌, take, min}
+use Rattle.std.specs.Str.Parse.{digits_value}
+use Rattle.pur_commands.specs.Limits.{sample_limit}
+use Rattle.pur_commands.proofs.words.value_of.Given as goal
+
+-- the value of the digits so far
+abbrev pub invariant-loop-digit : goal.invariant-loop-digit
+invariant-loop-digit l = l.value ≡ min (digits_value 10 (take l.digit-index l.digits)) (sample_limit + 1)

@@ -1,0 +1,10 @@
+pub mod Limits
+pub mod Commands
+pub mod Words
+pub mod Choices
+pub mod Accepted
+pub mod Statuses
+pub mod Samples
+pub mod Sources
+pub mod Writing
+pub mod Private
