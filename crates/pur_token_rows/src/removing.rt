@@ -1,13 +1,13 @@
 //! What stays of tokens in both doctypes, by the rules of removal.
 
-ghost use Rattle.pur_urigate.specs.Asking.{AnswersBy};
+ghost use Rattle.pur_uripolicy.specs.Asking.{AnswersBy};
+ghost use Rattle.pur_uripolicy.specs.HostRules.{admits};
 
 use crate::notation::{shown, tokens_of};
 use pur_foreign::remove_foreign;
 use pur_settings::Settings;
-use pur_siterule::host_rule;
 use pur_uri::Uri;
-use pur_urigate::{HostRule, UriGate, UriTest};
+use pur_uripolicy::{HostRule, UriGate, UriTest, host_rule};
 use std::alloc::Global;
 use std::test::Fail;
 
@@ -19,20 +19,19 @@ fn kept(alloc: Global, settings: &str, row: &str) -> Result<String, Fail> {
         return Err(Fail::new("the settings are too long"));
     }
     let settings = Settings::read(alloc, settings.as_bytes())?;
-    let own = host_rule(alloc, &settings)?;
     let rule = host_rule(alloc, &settings)?;
-    kept_by(alloc, &settings, rule, |uri: &Uri| own.admits(uri), row)
+    kept_by(alloc, &settings, &rule, |uri: &Uri| rule.admits(uri), row)
 }
 
 // What stays of the tokens, where the filter answers by the rule of hosts.
 fn kept_by<F: UriTest + Drop>(
     alloc: Global,
     settings: &Settings,
-    rule: HostRule,
+    rule: &HostRule,
     filter: F,
     row: &str,
 ) -> Result<String, Fail>
-    requires { AnswersBy F.may_ask F.answers filter rule }
+    requires { AnswersBy F.may_ask F.answers filter (admits rule.now) }
 {
     let gate = UriGate::new(rule, filter);
     let mut tokens = tokens_of(alloc, row)?;

@@ -1,0 +1,10 @@
+//! Rows of the program as a call: the words of its command line, its statuses and lines, checks, samples, and faults of the
+//! streams. There is nothing here but tests; they stand apart so that the program isn't proved a second time for them.
+#![tactic(auto)]
+
+#[cfg(test)]
+mod noting;
+#[cfg(test)]
+mod program;
+#[cfg(test)]
+mod words;

@@ -1,0 +1,123 @@
+//! What the words of the command line name.
+
+use pur_commands::{Command, read_words};
+use std::alloc::{AllocError, Global};
+use std::test::Fail;
+
+// Words of a command line, told as one text with a space between them; none for no words.
+pub(crate) fn words_of(alloc: Global, line: Option<&str>) -> Result<Vec<String>, AllocError> {
+    let mut words = Vec::new(alloc);
+    if let Some(line) = line {
+        for word in line.split(' ') {
+            words.push(String::from_str(alloc, word)?)?;
+        }
+    }
+    Ok(words)
+}
+
+// Words, whether they ask for a check, the settings and the input.
+type Row = (
+    Option<&'static str>,
+    bool,
+    Option<&'static str>,
+    Option<&'static str>,
+);
+
+static FILES: [Row; 18] = [
+    (None, false, None, None),
+    (Some("a"), false, None, Some("a")),
+    (Some("--settings a"), false, Some("a"), None),
+    (Some("--settings a b"), false, Some("a"), Some("b")),
+    (Some("--settings a-b x"), false, Some("a-b"), Some("x")),
+    (Some("b --settings a"), false, Some("a"), Some("b")),
+    (Some("--settings=a b"), false, Some("a"), Some("b")),
+    (Some("--settings="), false, Some(""), None),
+    (Some("--settings "), false, Some(""), None),
+    (Some("--settings=-x"), false, Some("-x"), None),
+    (Some("--settings=--check"), false, Some("--check"), None),
+    (Some(""), false, None, Some("")),
+    (Some("-"), false, None, Some("-")),
+    (Some("-- --check"), false, None, Some("--check")),
+    (Some("--check"), true, None, None),
+    (Some("--check b"), true, None, Some("b")),
+    (Some("b --check --settings a"), true, Some("a"), Some("b")),
+    (
+        Some("--settings a --check -- -b"),
+        true,
+        Some("a"),
+        Some("-b"),
+    ),
+];
+
+// Whether a command is the one of the row: its kind, its settings and its input.
+fn is_named(command: &Command, row: &Row) -> bool {
+    let (_, is_check, settings, input) = row;
+    match command {
+        Command::Filter {
+            settings: file,
+            input: text,
+        } => !*is_check && file.as_deref() == *settings && text.as_deref() == *input,
+        Command::Check {
+            settings: file,
+            input: text,
+        } => *is_check && file.as_deref() == *settings && text.as_deref() == *input,
+        Command::Sample(_) => false,
+    }
+}
+
+fn names_files(alloc: Global, words: &[String], row: &Row) -> Result<bool, AllocError> {
+    match read_words(alloc, words)? {
+        Some(command) => Ok(is_named(&command, row)),
+        None => Ok(false),
+    }
+}
+
+fn row_is_named(alloc: Global, row: &Row) -> Result<bool, AllocError> {
+    let words = words_of(alloc, row.0)?;
+    names_files(alloc, words.as_slice(), row)
+}
+
+fn all_are_named(alloc: Global) -> Result<bool, AllocError> {
+    for row in &FILES {
+        if !row_is_named(alloc, row)? {
+            return Ok(false);
+        }
+    }
+    Ok(true)
+}
+
+#[test]
+fn words_name_files(rt: HostRuntime) -> Result<(), Fail> {
+    let are_named = all_are_named(rt.alloc())?;
+    assert!(rt; are_named);
+    Ok(())
+}
+
+static SAMPLES: [(&str, u32); 4] = [
+    ("--sample 0", 0),
+    ("--sample 00010", 10),
+    ("--sample=9999", 9_999),
+    ("--sample 10000", 10_000),
+];
+
+fn names_sample(alloc: Global, line: &str, pieces: u32) -> Result<bool, AllocError> {
+    let words = words_of(alloc, Some(line))?;
+    let command = read_words(alloc, words.as_slice())?;
+    Ok(command == Some(Command::Sample(pieces)))
+}
+
+fn first_other_sample(alloc: Global) -> Result<Option<&'static str>, AllocError> {
+    for (line, pieces) in &SAMPLES {
+        if !names_sample(alloc, line, *pieces)? {
+            return Ok(Some(*line));
+        }
+    }
+    Ok(None)
+}
+
+#[test]
+fn words_name_samples(rt: HostRuntime) -> Result<(), Fail> {
+    let other = first_other_sample(rt.alloc())?;
+    assert_eq!(rt; other, None);
+    Ok(())
+}
