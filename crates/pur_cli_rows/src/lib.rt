@@ -3,8 +3,14 @@
 #![tactic(auto)]
 
 #[cfg(test)]
+mod checks;
+#[cfg(test)]
 mod noting;
 #[cfg(test)]
 mod program;
+#[cfg(test)]
+mod running;
+#[cfg(test)]
+mod streams;
 #[cfg(test)]
 mod words;
