@@ -1,0 +1,16 @@
+pub mod RunLemmas
+pub mod SignLemmas
+pub mod CutLemmas
+pub mod GrowingLemmas
+pub mod LevelLemmas
+pub mod AddressLemmas
+pub mod LinkLemmas
+pub mod LinkedLemmas
+pub mod ColonLemmas
+pub mod LinksLeftLemmas
+pub mod LinkKeepLemmas
+pub mod ParagraphLinkLemmas
+pub mod ParagraphKeepLemmas
+pub mod OnceLemmas
+pub mod WordLemmas
+pub mod BothLemmas
