@@ -14,3 +14,4 @@ pub mod SourceLemmas
 pub mod KeepingLemmas
 pub mod AlongLemmas
 pub mod WalkLemmas
+pub mod DistinctLemmas

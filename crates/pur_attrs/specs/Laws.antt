@@ -33,6 +33,11 @@ GivesSpellable = (rules : Rules) (rule : PlainHostRule) (nodes : Nodes) → begi
     → has_allowed_characters nodes ≡ true → has_distinct_names (with_valid_attributes rules rule nodes) ≡ true
     → is_spellable (with_valid_attributes rules rule nodes) ≡ true
 
+-- no two attributes of an element have one name, where none had
+abbrev pub KeepsDistinct : Type 0
+KeepsDistinct = (rules : Rules) (rule : PlainHostRule) (nodes : Nodes) → has_distinct_names nodes ≡ true
+    → has_distinct_names (with_valid_attributes rules rule nodes) ≡ true
+
 -- nodes with valid attributes stay as they are
 abbrev pub LeavesValid : Type 0
 LeavesValid = (rules : Rules) (rule : PlainHostRule) (nodes : Nodes) → is_spellable nodes ≡ true → HasValidAttributes rules rule nodes

@@ -5,7 +5,7 @@ ghost use Rattle.pur_modules.specs.declared.kinds.Doctype.{Doctype};
 ghost use Rattle.pur_settings.specs.Rules.{Rules};
 ghost use Rattle.pur_tree.specs.Nodes.{Nodes};
 ghost use Rattle.pur_uripolicy.specs.HostRules.{PlainHostRule};
-ghost use Rattle.pur_attrs.specs.Laws.{GivesValidAttributes, GivesSpellable, LeavesValid, KeepsNodes, KeepsFree, KeepsPermitted, KeepsForests, KeepsWords, KeepsCounts};
+ghost use Rattle.pur_attrs.specs.Laws.{GivesValidAttributes, GivesSpellable, KeepsDistinct, LeavesValid, KeepsNodes, KeepsFree, KeepsPermitted, KeepsForests, KeepsWords, KeepsCounts};
 ghost use Rattle.pur_attrs.specs.Rows.{LeavesOutTheSecondId, PutsThePrefix, PutsThePrefixOnce, PutsThePrefixFirst, GoesInDocumentOrder, KeepsNoIdUnlessIdsAreOn, MakesANameAnId, DropsANameBesideAnId, DropsANameBesideAnUnreadId, DropsOtherNames, TellsBothLanguages, TellsTheLanguageOfXml, TellsTheLanguageAtTheEnd, PutsADirection, KeepsADirection, KeepsWhatIsRequired, KeepsWhatIsListed, ReadsValues, ReadsClasses, StylesWhatStrictLacks, StylesWhatIsBehind, StylesText, PutsStylesInFront, StylesNothingInTransitional, ReadsStylesAndLinks, DropsScripts, ReadsLinks, NamesPictures, NamesPicturesByTheLastSegment, DropsDeniedHosts, KeepsOtherHosts};
 
 use pur_cssprops::{styles_are_allowed, styles_are_read_as_themselves};
@@ -38,6 +38,11 @@ pub fn gives_spellable()
     styles_are_read_as_themselves();
     styles_are_allowed();
 }
+
+/// No two attributes of an element have one name, where none had.
+pub fn keeps_distinct()
+    ensures { KeepsDistinct }
+{}
 
 /// Nodes with valid attributes stay as they are.
 pub fn leaves_valid()

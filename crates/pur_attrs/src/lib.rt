@@ -13,7 +13,7 @@ mod strict;
 mod validating;
 
 pub use laws::{
-    gives_spellable, gives_valid_attributes, keeps_counts, keeps_forests, keeps_free, keeps_nodes,
-    keeps_permitted, keeps_words, leaves_valid, worked_examples,
+    gives_spellable, gives_valid_attributes, keeps_counts, keeps_distinct, keeps_forests,
+    keeps_free, keeps_nodes, keeps_permitted, keeps_words, leaves_valid, worked_examples,
 };
 pub use validating::validate;

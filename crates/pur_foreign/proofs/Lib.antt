@@ -6,3 +6,4 @@ pub mod ImageLemmas
 pub mod ShownLemmas
 pub mod PictureLemmas
 pub mod StayLemmas
+pub mod DistinctLemmas

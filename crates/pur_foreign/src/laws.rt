@@ -7,6 +7,7 @@ ghost use Rattle.pur_foreign.specs.Removal.{without_foreign};
 ghost use Rattle.std.specs.List.{list_all};
 ghost use Rattle.pur_text.specs.Characters.{is_allowed};
 ghost use Rattle.pur_tokens.specs.Characters.{token_has_only};
+ghost use Rattle.pur_tokens.specs.Distinct.{shows_distinct};
 ghost use Rattle.pur_tokens.specs.Pictures.{has_good_picture};
 ghost use Rattle.pur_uripolicy.specs.Admissible.{has_source};
 ghost use Rattle.pur_uripolicy.specs.HostRules.{PlainHostRule};
@@ -26,6 +27,12 @@ pub fn removal_keeps_texts()
 pub fn removal_keeps_allowed()
     ensures { (rules : Rules) (rule : PlainHostRule) (tokens : List PlainToken) → IsTrue (list_all (token_has_only is_allowed) tokens)
         → IsTrue (list_all (token_has_only is_allowed) (without_foreign rules rule tokens)) }
+{}
+
+/// No attribute's name comes twice in a tag that stays, where none did in the tags that were read.
+pub fn removal_keeps_distinct()
+    ensures { (rules : Rules) (rule : PlainHostRule) (tokens : List PlainToken) → IsTrue (list_all shows_distinct tokens)
+        → IsTrue (list_all shows_distinct (without_foreign rules rule tokens)) }
 {}
 
 /// What stays are texts, none of which is empty where none was, and tags of permitted elements.

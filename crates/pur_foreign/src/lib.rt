@@ -9,6 +9,6 @@ mod strict;
 
 pub use laws::{
     kept_is_joined, kept_is_permitted, kept_pictures_have_sources, permitted_stays,
-    removal_keeps_allowed, removal_keeps_texts,
+    removal_keeps_allowed, removal_keeps_distinct, removal_keeps_texts,
 };
 pub use removal::{Removal, remove_foreign};

@@ -7,3 +7,4 @@ pub mod ReadingExamples
 pub mod TagLemmas
 pub mod TagEndLemmas
 pub mod WrittenLemmas
+pub mod DistinctLemmas

@@ -5,6 +5,7 @@ ghost use Rattle.pur_lexer.specs.Lexing.{tokens_of};
 ghost use Rattle.std.specs.List.{list_all};
 ghost use Rattle.pur_text.specs.Characters.{is_allowed};
 ghost use Rattle.pur_tokens.specs.Characters.{token_has_only};
+ghost use Rattle.pur_tokens.specs.Distinct.{shows_distinct};
 ghost use Rattle.pur_tokens.specs.Tokens.{PlainToken};
 ghost use Rattle.pur_lexer.specs.Written.{written, as_read, is_writable};
 
@@ -17,6 +18,11 @@ pub fn tokens_are_joined()
 /// The tokens of a text of allowed characters have allowed characters alone, in their texts, names and values.
 pub fn tokens_are_allowed()
     ensures { (text : List ℕ) → IsTrue (list_all is_allowed text) → IsTrue (list_all (token_has_only is_allowed) (tokens_of text)) }
+{}
+
+/// No attribute's name comes twice in a tag of a text.
+pub fn tokens_are_distinct()
+    ensures { (text : List ℕ) → IsTrue (list_all shows_distinct (tokens_of text)) }
 {}
 
 /// What tokens are written as is read as these tokens, with their references read: where each can be written, and no two

@@ -8,5 +8,5 @@ mod laws;
 mod lexing;
 mod places;
 
-pub use laws::{tokens_are_allowed, tokens_are_joined, written_is_read};
+pub use laws::{tokens_are_allowed, tokens_are_distinct, tokens_are_joined, written_is_read};
 pub use lexing::{Lexer, lex};

@@ -9,7 +9,7 @@ use Rattle.pur_names.proofs.ElementLaws.{each_element}
 use Rattle.pur_modules.specs.Contents.{is_excluded, is_excluded_in}
 use Rattle.pur_tokens.specs.Attributes.{Attribute}
 use Rattle.pur_tree.specs.Nodes.{Nodes, no_nodes, text_first, elem_first}
-use Rattle.pur_tree.specs.Properties.{Holds, free, permitted, pictures, allowed}
+use Rattle.pur_tree.specs.Properties.{Holds, free, permitted, pictures, allowed, distinct}
 use Rattle.pur_nesting.specs.declared.permits.Permits.{Permits}
 use Rattle.pur_nesting.specs.Private.Keeping.{StaysInRepair}
 
@@ -102,4 +102,21 @@ allowed_stays p = record {
   row = λ w attrs h. h;
   in_row = λ w kids h. h;
   beside_rows = λ w s h. h;
+}
+
+pub distinct_stays : (p : Permits) → StaysInRepair distinct p
+distinct_stays p = record {
+  joined = λ w s t h k. tt;
+  paragraph = λ yes w attrs h. refl;
+  caption = λ w kids h. h;
+  head = λ yes w attrs h. h;
+  foot = λ yes w attrs h. h;
+  body = λ w attrs h. refl;
+  in_head = λ w kids h. h;
+  in_foot = λ w kids h. h;
+  out_of_head = λ w kids h. h;
+  out_of_foot = λ w kids h. h;
+  row = λ w attrs h. h;
+  in_row = λ w kids h. h;
+  beside_rows = λ w s h. tt;
 }

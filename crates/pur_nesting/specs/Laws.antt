@@ -10,7 +10,7 @@ use Rattle.pur_tokens.specs.Attributes.{Attribute}
 use Rattle.pur_tree.specs.Forests.{IsForest}
 use Rattle.pur_tree.specs.Nodes.{Nodes, is_joined}
 use Rattle.pur_tree.specs.Properties.{Holds, letters, free, permitted, pictures}
-use Rattle.pur_tree.specs.Spelling.{has_allowed_characters}
+use Rattle.pur_tree.specs.Spelling.{has_allowed_characters, has_distinct_names}
 use Rattle.pur_tree.specs.Walks.{count_in_text}
 use Rattle.pur_tree.specs.Words.{IsWord, HaveWords}
 use Rattle.pur_nesting.specs.declared.permits.Permits.{Permits}
@@ -40,6 +40,10 @@ KeepsPermitted = (permits : Element → Bool) (nodes : Nodes) → Holds (permitt
 abbrev pub KeepsPictures : Type 0
 KeepsPictures = (test : List Attribute → Bool) (p : Permits) (nodes : Nodes) → Holds (pictures test) tt nodes
     → Holds (pictures test) tt (nested p nodes)
+
+-- no two attributes of an element have one name, where none had
+abbrev pub KeepsDistinct : Type 0
+KeepsDistinct = (p : Permits) (nodes : Nodes) → has_distinct_names nodes ≡ true → has_distinct_names (nested p nodes) ≡ true
 
 -- texts and values of allowed characters stay so
 abbrev pub KeepsAllowed : Type 0

@@ -1,6 +1,6 @@
 //! Laws of nesting repair, each the contract of a function that does nothing.
 
-ghost use Rattle.pur_nesting.specs.Laws.{KeepsForests, KeepsLetters, KeepsFree, KeepsPermitted, KeepsPictures, KeepsAllowed, KeepsCounts, NeverMore, GivesWords, GivesAWord, JoinsTexts, WordsAreLetters, LeavesSettled, IsSettling, ValidAreSettled, RepairsOnce};
+ghost use Rattle.pur_nesting.specs.Laws.{KeepsForests, KeepsLetters, KeepsFree, KeepsPermitted, KeepsPictures, KeepsDistinct, KeepsAllowed, KeepsCounts, NeverMore, GivesWords, GivesAWord, JoinsTexts, WordsAreLetters, LeavesSettled, IsSettling, ValidAreSettled, RepairsOnce};
 ghost use Rattle.pur_nesting.specs.Rows.{DropsAnEmptyList, KeepsADefinition, JoinsNeighbours, PutsTheCaptionFirst, MakesAParagraph, LosesACaption, DropsABlankTable, PutsBodiesLast, MakesTheHeadABody, TakesTheRowsOfTheHead, MakesTheFootABody, PutsTheFootBeforeBodies, DropsAnEmptyTable, DropsRowsWithoutCells, KeepsAttributesOfAHead, TakesTheRowsOfAFoot, PutsRunsIntoBodies};
 
 /// Letters stay letters of their parent's content.
@@ -21,6 +21,11 @@ pub fn keeps_permitted()
 /// No picture comes in, and pictures keep their attributes.
 pub fn keeps_pictures()
     ensures { KeepsPictures }
+{}
+
+/// No two attributes of an element have one name, where none had.
+pub fn keeps_distinct()
+    ensures { KeepsDistinct }
 {}
 
 /// Texts and values of allowed characters stay so.

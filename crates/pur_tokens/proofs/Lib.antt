@@ -4,3 +4,4 @@ pub mod StorageLaws
 pub mod IndexLaws
 pub mod JoiningLaws
 pub mod StyleLaws
+pub mod DistinctLaws

@@ -4,6 +4,7 @@ pub mod Pairs
 pub mod Tokens
 pub mod Joining
 pub mod Characters
+pub mod Distinct
 pub mod Styles
 pub mod Pictures
 pub mod Private

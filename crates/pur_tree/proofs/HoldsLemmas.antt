@@ -9,8 +9,9 @@ use Rattle.pur_modules.specs.Contents.{is_empty_element}
 use Rattle.pur_tree.specs.Nodes.{PlainElem, Nodes, no_nodes, text_first, elem_first, nodes_append, has_no_nodes, is_sound, level_in}
 use Rattle.pur_tree.specs.Places.{Place, inside, level_limit, fragment}
 use Rattle.pur_tree.specs.Forests.{IsForest}
-use Rattle.pur_tree.specs.Properties.{Property, Holds, levels, soundness, spellable, allowed}
-use Rattle.pur_tree.specs.Spelling.{are_spellable, is_spellable, has_allowed_values, has_allowed_characters}
+use Rattle.pur_tokens.specs.Attributes.{is_distinct}
+use Rattle.pur_tree.specs.Properties.{Property, Holds, levels, soundness, spellable, allowed, distinct}
+use Rattle.pur_tree.specs.Spelling.{are_spellable, is_spellable, has_allowed_values, has_allowed_characters, has_distinct_names}
 use Rattle.pur_tree.specs.Walks.{walk, text_joined, joined_nodes}
 use Rattle.pur_tree.proofs.WalkLemmas.{level-joined_nodes}
 
@@ -120,6 +121,20 @@ pub test-allowed : (f : Nodes) → Holds allowed tt f → has_allowed_characters
 test-allowed no_nodes h = refl
 test-allowed (text_first s f) h = and_from _ _ h.0 (test-allowed f h.1)
 test-allowed (elem_first e kids f) h = and_from _ _ h.0 (and_from _ _ (test-allowed kids h.1) (test-allowed f h.2))
+
+-- and so is that of distinct names
+pub distinct-test : (f : Nodes) → has_distinct_names f ≡ true → Holds distinct tt f
+distinct-test no_nodes h = tt
+distinct-test (text_first s f) h = (tt, distinct-test f h)
+distinct-test (elem_first e kids f) h =
+    let here = and_parts (is_distinct e.attrs) (has_distinct_names kids && has_distinct_names f) h in
+    let below = and_parts (has_distinct_names kids) (has_distinct_names f) here.1 in
+    (here.0, distinct-test kids below.0, distinct-test f below.1)
+
+pub test-distinct : (f : Nodes) → Holds distinct tt f → has_distinct_names f ≡ true
+test-distinct no_nodes h = refl
+test-distinct (text_first s f) h = test-distinct f h.1
+test-distinct (elem_first e kids f) h = and_from _ _ h.0 (and_from _ _ (test-distinct kids h.1) (test-distinct f h.2))
 
 longer : (s t : List ℕ) → 0 < length s → 0 < length (s ++ t)
 longer s t h = omega (arith, h, length-append s t)

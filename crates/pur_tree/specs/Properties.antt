@@ -10,7 +10,7 @@ use Rattle.pur_modules.specs.declared.kinds.Content.{Content}
 use Rattle.pur_modules.specs.declared.kinds.Doctype.{Doctype}
 use Rattle.pur_modules.specs.Contents.{content_held, is_empty_element, is_excluded_in}
 use Rattle.pur_modules.specs.Expressions.{is_letter}
-use Rattle.pur_tokens.specs.Attributes.{Attribute}
+use Rattle.pur_tokens.specs.Attributes.{Attribute, is_distinct}
 use Rattle.pur_tree.specs.Nodes.{PlainElem, Nodes, no_nodes, text_first, elem_first}
 use Rattle.pur_tree.specs.Places as places
 use Rattle.pur_tree.specs.Spelling.{are_spellable, has_allowed_values}
@@ -61,6 +61,15 @@ allowed = record {
   Where = Unit {0};
   text = λ at s. list_all is_allowed s ≡ true;
   elem = λ at e. has_allowed_values e.attrs ≡ true;
+  inside = λ at e. at;
+}
+
+-- no two attributes of an element have one name
+abbrev pub distinct : Property
+distinct = record {
+  Where = Unit {0};
+  text = λ at s. Unit {0};
+  elem = λ at e. is_distinct e.attrs ≡ true;
   inside = λ at e. at;
 }
 

@@ -18,3 +18,4 @@ pub mod ClosingFacts
 pub mod PassingFacts
 pub mod AllowedFacts
 pub mod PictureFacts
+pub mod ForestFacts

@@ -331,6 +331,12 @@ module _ (says : List ℕ → Bool) (shows : PlainElem → Bool) (test : Test sa
       let parts = and_parts (passes says shows token) (list_all (passes says shows) tokens) all in
       join-passes token (joined tokens) parts.0 (joined-passes tokens parts.1)
 
+  -- what closing writes passes, where what it reads does
+  pub written-passes : (reads : read.PlainToken → Bool) → Reads says shows reads → (rules : Rules) (tokens : List read.PlainToken)
+      → list_all reads tokens ≡ true → list_all (passes says shows) (closed rules tokens) ≡ true
+  written-passes reads reading rules tokens all =
+      joined-passes (run_of rules tokens).written (run-passes reads reading rules tokens all).written
+
   module _ (P : Nodes → Type 0) (tells : Tells says shows P) where
     nodes-pass : (nodes : Nodes) → list_all (passes says shows) (tokens_of_nodes nodes) ≡ true → P nodes
     nodes-pass no_nodes all = tells.none
@@ -356,5 +362,4 @@ module _ (says : List ℕ → Bool) (shows : PlainElem → Bool) (test : Test sa
     pub closed-passes : (reads : read.PlainToken → Bool) → Reads says shows reads → (rules : Rules) (tokens : List read.PlainToken) (nodes : Nodes)
         → list_all reads tokens ≡ true → tokens_of_nodes nodes ≡ closed rules tokens → P nodes
     closed-passes reads reading rules tokens nodes all tree =
-        let run = run-passes reads reading rules tokens all in
-        nodes-pass nodes (subst (λ (ts : List Token). list_all (passes says shows) ts ≡ true) (sym tree) (joined-passes (run_of rules tokens).written run.written))
+        nodes-pass nodes (subst (λ (ts : List Token). list_all (passes says shows) ts ≡ true) (sym tree) (written-passes reads reading rules tokens all))

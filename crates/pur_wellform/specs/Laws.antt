@@ -5,9 +5,11 @@ use Rattle.pur_names.specs.Elements.{element_name}
 use Rattle.pur_tokens.specs.Attributes.{Attribute}
 use Rattle.pur_text.specs.Characters.{is_allowed}
 use Rattle.pur_tokens.specs.Characters.{token_has_only}
+use Rattle.pur_tokens.specs.Distinct.{shows_distinct}
 use Rattle.pur_tokens.specs.Pictures.{has_good_picture}
 use Rattle.pur_tokens.specs.Tokens as read
 use Rattle.pur_settings.specs.Rules.{Rules, permits_element}
+use Rattle.pur_tree.specs.Forests.{IsForest}
 use Rattle.pur_tree.specs.Nodes.{Nodes, is_sound, is_joined, level_of}
 use Rattle.pur_tree.specs.Places.{level_limit}
 use Rattle.pur_tree.specs.Properties.{Holds, permitted, letters, free, pictures}
@@ -15,7 +17,7 @@ use Rattle.pur_tree.specs.Tokens.{Token, text_token, start_token, end_token, emp
 use Rattle.pur_tokens.specs.Joining.{count_in_text}
 use Rattle.pur_tokens.specs.Texts.{times}
 use Rattle.pur_wellform.specs.Closing.{closed, lost_in_closing, paid, steps, first_state, pending_limit, allowance}
-use Rattle.pur_tree.specs.Spelling.{has_allowed_characters}
+use Rattle.pur_tree.specs.Spelling.{has_allowed_characters, has_distinct_names}
 use Rattle.pur_wellform.specs.Standing.{can_be_closed, Stands}
 use Rattle.pur_wellform.specs.Invariants.{GoodRun}
 
@@ -23,6 +25,15 @@ use Rattle.pur_wellform.specs.Invariants.{GoodRun}
 abbrev pub ClosedStands : Type 0
 ClosedStands = (rules : Rules) (tokens : List read.PlainToken) → list_all (can_be_closed rules) tokens ≡ true
     → Stands rules [] (tree_of (closed rules tokens))
+
+-- what closing writes has a tree, and this is what every forest is
+abbrev pub ClosedHasTree : Type 0
+ClosedHasTree = (rules : Rules) (tokens : List read.PlainToken) → list_all (can_be_closed rules) tokens ≡ true
+    → IsTreeOf (tree_of (closed rules tokens)) (closed rules tokens)
+
+abbrev pub ClosedIsForest : Type 0
+ClosedIsForest = (rules : Rules) (tokens : List read.PlainToken) → list_all (can_be_closed rules) tokens ≡ true
+    → IsForest (tree_of (closed rules tokens))
 
 -- wherever the tokens end, what was written, what is open and what waits are as they should be: each token that was written
 -- stands where it may, no more wait than their limit, and what was paid and what may still be paid are the allowance
@@ -76,6 +87,11 @@ ClosedLedger = (rules : Rules) (tokens : List read.PlainToken) (c : ℕ)
 abbrev pub ClosedIsAllowed : Type 0
 ClosedIsAllowed = (rules : Rules) (tokens : List read.PlainToken) (nodes : Nodes) → list_all (token_has_only is_allowed) tokens ≡ true
     → IsTreeOf nodes (closed rules tokens) → has_allowed_characters nodes ≡ true
+
+-- no two attributes of an element have one name in what closing leaves, where no two have in a tag that is read
+abbrev pub ClosedKeepsDistinct : Type 0
+ClosedKeepsDistinct = (rules : Rules) (tokens : List read.PlainToken) (nodes : Nodes) → list_all shows_distinct tokens ≡ true
+    → IsTreeOf nodes (closed rules tokens) → has_distinct_names nodes ≡ true
 
 -- in the tree of what closing leaves the attributes of each picture pass a test, where those of each picture that is read do: a
 -- picture is neither wrapper nor formatting, so none is put in or opened again

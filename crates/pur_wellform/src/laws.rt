@@ -1,10 +1,25 @@
 //! Laws of closing, each the contract of a function that does nothing.
-ghost use Rattle.pur_wellform.specs.Laws.{ClosedStands, StandsClosed, IsClosedStands, EveryPrefixIsGood, FewArePending, PaysLittle, ClosedAsItself, ClosedLedger, ClosedIsAllowed, ClosedKeepsPictures};
+ghost use Rattle.pur_wellform.specs.Laws.{ClosedStands, ClosedHasTree, ClosedIsForest, StandsClosed, IsClosedStands, EveryPrefixIsGood, FewArePending, PaysLittle, ClosedAsItself, ClosedLedger, ClosedIsAllowed, ClosedKeepsDistinct, ClosedKeepsPictures};
 ghost use Rattle.pur_wellform.specs.Rows.{CarriesPastAnEnd, CarriesIntoABlock, WrapsTextInAnItem, DropsACellWithoutTable, DropsTextInATable, LosesTextInATable, DropsALinkInALink, DropsAnImageInPre, ClosesRoundABlock, ImpliesWhatIsPermitted, WrapsTextInAParagraph, CarriesNothingOutOfACell, StopsAtTheLimit, CountsARowForTwo};
+
+use pur_tree::has_tree;
 
 /// In the tree of what closing writes each node stands where it may.
 pub fn closed_stands()
     ensures { ClosedStands }
+{}
+
+/// What closing writes has a tree.
+pub fn closed_has_tree()
+    ensures { ClosedHasTree }
+{
+    has_tree();
+}
+
+/// The tree of what closing writes is what every forest is: no level passes the limit, no text is empty, and EMPTY elements
+/// have no children.
+pub fn closed_is_forest()
+    ensures { ClosedIsForest }
 {}
 
 /// What stands where it may is permitted and a letter of its parent's content or white space, stands in nothing that
@@ -47,6 +62,11 @@ pub fn closed_ledger()
 /// What closing leaves has allowed characters alone in its texts and values, where the tokens that it reads have.
 pub fn closed_is_allowed()
     ensures { ClosedIsAllowed }
+{}
+
+/// No two attributes of an element have one name in what closing leaves, where no two have in a tag that it reads.
+pub fn closed_keeps_distinct()
+    ensures { ClosedKeepsDistinct }
 {}
 
 /// What closing leaves has pictures whose attributes pass a test alone, where the tags of pictures that it reads do.
