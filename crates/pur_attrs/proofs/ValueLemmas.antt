@@ -1,18 +1,20 @@
 -- Which attributes are valid: what is kept is, an id with a prefix, both languages, and a direction.
 use Rattle.std.proofs.Common.{◌≡◌, ℕ, ◌^◌, Bool, true, false, not, ◌&&◌, ◌||◌, cond, nat_le, nat_lt, List, [], ◌∷◌, ◌++◌, map, Option, Some, None, refl, sym, ap, subst, ◌∙◌, arith}
 use mathlib.Core.Bool.{beq}
-use Rattle.std.specs.Prelude.{codes}
+use Rattle.std.specs.Prelude.{codes, encode_utf8_all}
 use Rattle.std.specs.List.{find, list_all, list_any}
 use Rattle.std.specs.Str.{bytes_eq}
 use Rattle.std.specs.Option.{option_and_then, option_map, option_map_or}
 use Rattle.std.proofs.lemmas.Bool.{and_parts, and_from, cond-true, leb-true, ltb-true}
 use Rattle.std.proofs.lemmas.Bool.Decides.{nat_tests}
 use Rattle.std.proofs.lemmas.Option.{option_and_then_some, same_Some}
+use Rattle.std.proofs.lemmas.Str.{chars-encodes}
 use Rattle.pur_laws.proofs.Lists.{all-append, all-weaker, any-same}
 use Rattle.pur_laws.proofs.Tests.{kept}
 use Rattle.pur_laws.proofs.Truth.{same_truth, or_true}
 use Rattle.pur_text.specs.Characters.{is_allowed}
 use Rattle.pur_text.specs.Trimming.{trimmed}
+use Rattle.pur_text.proofs.CleaningLemmas.{allowed_scalars}
 use Rattle.pur_names.specs.Attributes.{attr_name, attr_named, same_attr, all_attrs}
 use Rattle.pur_names.specs.Elements.{all_elements, element_rank}
 use Rattle.pur_names.specs.declared.attributes.Attr.{Attr}
@@ -47,6 +49,7 @@ use Rattle.pur_uripolicy.specs.declared.uses.UriUse.{UriUse}
 use Rattle.pur_uripolicy.specs.declared.uses.UriUse.TheVariants.{Embed, Link}
 use Rattle.pur_uripolicy.specs.Admissible.{uri_under}
 use Rattle.pur_uripolicy.specs.Laws.{ReadAgain, UrisAreAllowed}
+use Rattle.pur_cssprops.specs.Laws.{StyleReadAsItself}
 use Rattle.pur_cssprops.specs.Styles.{style_read}
 use Rattle.pur_validity.specs.Attributes.{uri_on, value_on, is_canonical, is_valid_attribute, has_prefix}
 use Rattle.pur_attrs.specs.Ids.{with_prefix}
@@ -110,8 +113,7 @@ pub record Readings : Type 0 where
   pub uris : ReadAgain
   pub uris_allowed : UrisAreAllowed
   pub characters : (raw : List ℕ) (uri : PlainUri) → uri_of raw ≡ Some uri → list_all is_canonical_byte (uri_text uri) ≡ true
-  pub styles : (rules : Rules) (rule : PlainHostRule) (raw value : List ℕ) → list_all is_allowed raw ≡ true → style_read rules rule raw ≡ Some value
-      → style_read rules rule value ≡ Some value
+  pub styles : StyleReadAsItself
   pub styles_allowed : (rules : Rules) (rule : PlainHostRule) (raw value : List ℕ) → style_read rules rule raw ≡ Some value
       → list_all is_allowed value ≡ true
 
@@ -163,7 +165,12 @@ module _ (known : Readings) (rules : Rules) (rule : PlainHostRule) where
           })
 
   style-reading : (raw value : List ℕ) → list_all is_allowed raw ≡ true → style_read rules rule raw ≡ Some value → IsReading (style_read rules rule) value
-  style-reading raw value all is = record { again = known.styles rules rule raw value all is; allowed = known.styles_allowed rules rule raw value is }
+  style-reading raw value all is =
+      let characters = allowed_scalars raw all in
+      record {
+        again = known.styles rules rule (encode_utf8_all raw) value (raw, (characters, refl)) (ap (style_read rules rule) (chars-encodes raw characters) ∙ is);
+        allowed = known.styles_allowed rules rule raw value is;
+      }
 
   kind-reading : (element : Element) (attr : Attr) (raw value : List ℕ) → list_all is_allowed raw ≡ true
       → option_and_then (λ k. value_of k raw) (kind_of element attr) ≡ Some value

@@ -1,19 +1,16 @@
 -- What a style is read as is read as itself.
-use Rattle.std.proofs.Common.{◌≡◌, ℕ, Bool, true, false, not, cond, List, [], ◌∷◌, map, Option, Some, None, refl, sym, ap, subst, ◌∙◌, arith, encode_utf8_all}
+use Rattle.std.proofs.Common.{◌≡◌, ℕ, Bool, true, false, not, cond, List, [], ◌∷◌, map, Option, Some, None, IfSome, IsUtf8, refl, sym, ap, subst, ◌∙◌, encode_utf8_all}
 use Rattle.std.specs.Prelude.{◌||◌}
 use Rattle.std.specs.List.{list_all, list_any, before_first, after_first, filter_map, cons_option, onto_first}
 use Rattle.std.specs.Option.{option_map}
 use Rattle.std.specs.Str.{chars}
 use Rattle.std.proofs.lemmas.Bool.{cond-true, and_parts, and_from}
-use Rattle.std.proofs.lemmas.Bool.Decides.{nat_tests}
 use Rattle.std.proofs.lemmas.Option.{option_and_then_some, same_Some}
-use Rattle.std.proofs.lemmas.Str.{chars-encodes}
+use Rattle.std.proofs.lemmas.Str.{chars-encodes, scalars-chars}
 use lib.Utf8.{scalar}
-use Rattle.pur_laws.proofs.Lists.{all-weaker}
 use Rattle.pur_names.proofs.StylePropLaws.{prop_named-name}
 use Rattle.pur_names.specs.Properties.{prop_named}
 use Rattle.pur_names.specs.declared.properties.StyleProp.{StyleProp}
-use Rattle.pur_text.specs.Characters.{is_allowed}
 use Rattle.pur_text.specs.Trimming.{trimmed}
 use Rattle.pur_settings.specs.Rules.{Rules, permits_property}
 use Rattle.pur_csstok.specs.Cuts.{nothing_open, is_cut, open_after, heeds_parentheses, pieces_from, pieces}
@@ -27,7 +24,7 @@ use Rattle.pur_cssprops.proofs.InnerLaws.{IsInherited, IsPlain, or_parts, all-in
 use Rattle.pur_cssprops.proofs.KeptLemmas.{named_chars, Every, once-every, once-distinct, once-again, written-is, kept-read}
 use Rattle.pur_cssprops.proofs.PropertyLemmas.{names_clean}
 use Rattle.pur_cssprops.proofs.ShapeLaws.{CleanLaws, value-clean}
-use Rattle.pur_cssprops.proofs.UrlLaws.{scalars_all, encoded}
+use Rattle.pur_cssprops.proofs.UrlLaws.{scalars_all, all_scalars, encoded}
 use Rattle.pur_cssprops.proofs.WordLaws.{AtomLaws}
 
 -- ---- what is kept was read
@@ -135,14 +132,11 @@ module _ (rules : Rules) (rule : PlainHostRule) where
         go None cut characters later = later
         go (Some pair) cut characters later = next pair (declaration_kept rules rule pair) cut refl characters later
 
-  -- what is kept of a style of allowed characters
-  allowed_scalar : (c : ℕ) → is_allowed c ≡ true → scalar c ≡ true
-  allowed_scalar c is = grind (arith, nat_tests)
-
-  kept_read : (raw : List ℕ) → list_all is_allowed raw ≡ true → Every IsRead (each_once (filter_map (declaration_kept rules rule) (declarations_of raw)))
+  -- what is kept of a style of characters
+  kept_read : (raw : List ℕ) → list_all scalar raw ≡ true → Every IsRead (each_once (filter_map (declaration_kept rules rule) (declarations_of raw)))
   kept_read raw all =
       let kept = filter_map (declaration_kept rules rule) (declarations_of raw) in
-      once-every IsRead kept (all_read _ (pieces-all scalar _ nothing_open raw (all-weaker is_allowed scalar allowed_scalar raw all)))
+      once-every IsRead kept (all_read _ (pieces-all scalar _ nothing_open raw all))
 
   -- ---- read again
 
@@ -169,12 +163,12 @@ module _ (rules : Rules) (rule : PlainHostRule) where
     all_again (kept ∷ all) every =
         ap (λ o. cons_option o (filter_map (declaration_kept rules rule) (map named_chars all))) (again kept every.0) ∙ ap (λ t. kept ∷ t) (all_again all every.1)
 
-    pub style-again : (raw out : List ℕ) → list_all is_allowed raw ≡ true → style_read rules rule raw ≡ Some out → style_read rules rule out ≡ Some out
+    pub style-again : (raw out : List ℕ) → list_all scalar raw ≡ true → style_read rules rule raw ≡ Some out → style_read rules rule out ≡ Some out
     unfolding style_read
-    style-again raw out allowed e =
+    style-again raw out characters e =
         let all = filter_map (declaration_kept rules rule) (declarations_of raw) in
         let once = each_once all in
-        let every = kept_read raw allowed in
+        let every = kept_read raw characters in
         let cut : declarations_of out ≡ map named_chars once = ap declarations_of (sym (written-is once out e)) ∙ declared (map named_chars once) (all_clean once every) in
         ap (λ pairs. style_written (each_once (filter_map (declaration_kept rules rule) pairs))) cut
         ∙ ap (λ kept. style_written (each_once kept)) (all_again once every)
@@ -182,4 +176,11 @@ module _ (rules : Rules) (rule : PlainHostRule) where
         ∙ e
 
 pub styles-stay : AtomLaws → CleanLaws → ReadAsItself → ((pairs : List Pair) → AreClean pairs → declarations_of (style_text pairs) ≡ pairs) → StyleReadAsItself
-styles-stay atoms clean itself declared rules rule raw out allowed e = style-again rules rule atoms clean itself declared raw out allowed e
+styles-stay atoms clean itself declared rules rule raw out valid e =
+    style-again rules rule atoms clean itself declared (chars raw) out (all_scalars (chars raw) (scalars-chars raw valid)) e
+
+-- what a text was read as, if it was
+pub itself-again : StyleReadAsItself → (rules : Rules) (rule : PlainHostRule) (raw : List ℕ) → IsUtf8 raw → (out : Option (List ℕ))
+    → out ≡ style_read rules rule (chars raw) → IfSome out (λ text. style_read rules rule text ≡ Some text)
+itself-again law rules rule raw valid None e = tt
+itself-again law rules rule raw valid (Some text) e = law rules rule raw text valid (sym e)

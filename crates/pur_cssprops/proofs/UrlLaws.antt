@@ -39,7 +39,7 @@ pub scalars_all : (cs : List ℕ) → list_all scalar cs ≡ true → scalars cs
 scalars_all [] all = refl
 scalars_all (c ∷ cs) all = let both = and_parts (scalar c) (list_all scalar cs) all in and_from _ _ both.0 (scalars_all cs both.1)
 
-all_scalars : (cs : List ℕ) → scalars cs ≡ true → list_all scalar cs ≡ true
+pub all_scalars : (cs : List ℕ) → scalars cs ≡ true → list_all scalar cs ≡ true
 all_scalars [] all = refl
 all_scalars (c ∷ cs) all = let both = and_parts (scalar c) (scalars cs) all in and_from _ _ both.0 (all_scalars cs both.1)
 

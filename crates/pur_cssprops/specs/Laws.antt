@@ -20,11 +20,11 @@ ReadAsItself =
 abbrev pub NeverBoth : WordForm → WordForm → Type 0
 NeverBoth one other = (text first second : List ℕ) → word_read one text ≡ Some first → word_read other text ≡ Some second → ⊥
 
--- what a style of allowed characters is read as is read as itself
+-- what the characters of a text are read as, as a style, is read as itself
 abbrev pub StyleReadAsItself : Type 0
 StyleReadAsItself =
-    (rules : Rules) (rule : PlainHostRule) (raw output : List ℕ) → IsTrue (list_all is_allowed raw)
-    → style_read rules rule raw ≡ Some output → style_read rules rule output ≡ Some output
+    (rules : Rules) (rule : PlainHostRule) (raw output : List ℕ) → IsUtf8 raw
+    → style_read rules rule (chars raw) ≡ Some output → style_read rules rule output ≡ Some output
 
 -- what a style is read as has allowed characters alone
 abbrev pub StyleAllowed : Type 0

@@ -37,7 +37,7 @@ pub fn words_have_one_form()
     ensures over_or_through { NeverBoth overline line_through }
 {}
 
-/// What a style of allowed characters is read as is read as itself; so canonical styles stay as they are.
+/// What a text is read as, as a style, is read as itself, whatever its characters are; so canonical styles stay as they are.
 pub fn styles_are_read_as_themselves()
     ensures { StyleReadAsItself }
 {

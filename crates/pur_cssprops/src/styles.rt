@@ -1,5 +1,5 @@
 //! The one text of a style.
-ghost use Rattle.std.specs.Prelude.{◌≡◌, ◌++◌, ◌∷◌, [], IfOk, OnOk, option_map, string_bytes};
+ghost use Rattle.std.specs.Prelude.{◌≡◌, ◌++◌, ◌∷◌, [], IfOk, IfSome, OnOk, Some, option_map, string_bytes};
 ghost use Rattle.std.specs.Str.{chars};
 ghost use Rattle.pur_csstok.specs.Declarations.{declaration_body};
 ghost use Rattle.pur_csstok.specs.Written.{pair_of};
@@ -8,6 +8,7 @@ ghost use Rattle.pur_names.specs.Properties.{prop_named};
 ghost use Rattle.pur_cssprops.specs.Private.Held.{held, with_one, written};
 ghost use Rattle.pur_cssprops.specs.Styles.{declaration_kept, property_read, style_read};
 
+use crate::laws::styles_are_read_as_themselves;
 use crate::properties::form_of;
 use crate::reading::read_value;
 use indexmap::IndexMap;
@@ -21,7 +22,7 @@ use std::alloc::{AllocError, Global};
 /// value, written `property:value;` with nothing between them; none where no declaration is kept.
 ///
 /// A declaration is kept where the settings permit its property and its value is read (see [`read_value`]), a URL where
-/// they permit its scheme and `gate` admits it. What a style of allowed characters is read as is read as itself.
+/// they permit its scheme and `gate` admits it. What a style is read as is read as itself, whatever its characters are.
 ///
 /// The error is want of memory.
 pub fn canon_style<F: UriTest>(
@@ -30,8 +31,10 @@ pub fn canon_style<F: UriTest>(
     gate: &UriGate<F>,
     raw: &str,
 ) -> Result<Option<String>, AllocError>
-    ensures { IfOk result (λ style. option_map text_of style ≡ style_read settings.now gate.now (chars raw.now)) }
+    ensures read { IfOk result (λ style. option_map text_of style ≡ style_read settings.now gate.now (chars raw.now)) }
+    ensures itself { IfOk result (λ style. IfSome (option_map text_of style) (λ text. style_read settings.now gate.now text ≡ Some text)) }
 {
+    styles_are_read_as_themselves();
     let declarations = split(alloc, raw)?;
     let mut values = IndexMap::new(alloc);
     for declaration in &declarations {
