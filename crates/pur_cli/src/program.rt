@@ -5,7 +5,7 @@ ghost use Rattle.pur_io.specs.Taken.{taken_more};
 ghost use Rattle.pur_io.specs.Texts.{text_named};
 ghost use Rattle.pur_uripolicy.specs.HostRules.{rule_of};
 ghost use Rattle.pur_validity.specs.Goodness.{IsGood};
-ghost use Rattle.pur_engine.specs.Ledger.{AddsNoText};
+ghost use Rattle.pur_engine.specs.Ledger.{AddsNoText, KeepsLedger};
 ghost use Rattle.pur_engine.specs.Purified.{purified};
 ghost use Rattle.pur_engine.specs.Spelled.{IsSpelled};
 ghost use Rattle.pur_commands.specs.Accepted.{settings_named};
@@ -87,8 +87,13 @@ pub fn run<H: Shelf, O: Sink, E: Sink>(
         IfFilter (command_of (map string_bytes words.now)) (λ names. IfSome (settings_named texts names.settings) (λ rules.
         IsGood rules (rule_of rules) (text_of (answer_of (map string_bytes words.now) texts) Status.Done)))) }
     ensures adds_no_text { result ≡ code_of Status.Done → IfSome (H.texts shelf.old) (λ texts.
-        IfFilter (command_of (map string_bytes words.now)) (λ names.
-        AddsNoText (text_named texts names.input) (text_of (answer_of (map string_bytes words.now) texts) Status.Done))) }
+        IfFilter (command_of (map string_bytes words.now)) (λ names. IfSome (settings_named texts names.settings) (λ rules.
+        AddsNoText rules (rule_of rules) (text_named texts names.input)
+        (text_of (answer_of (map string_bytes words.now) texts) Status.Done)))) }
+    ensures ledger { result ≡ code_of Status.Done → IfSome (H.texts shelf.old) (λ texts.
+        IfFilter (command_of (map string_bytes words.now)) (λ names. IfSome (settings_named texts names.settings) (λ rules.
+        KeepsLedger rules (rule_of rules) (text_named texts names.input)
+        (text_of (answer_of (map string_bytes words.now) texts) Status.Done)))) }
     ensures unchanged { result ≡ code_of Status.Done → IfSome (H.texts shelf.old) (λ texts.
         IfFilter (command_of (map string_bytes words.now)) (λ names. IfSome (settings_named texts names.settings) (λ rules.
         IsGood rules (rule_of rules) (text_named texts names.input) →

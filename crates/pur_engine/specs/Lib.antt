@@ -1,3 +1,5 @@
-pub mod Ledger
 pub mod Purified
+pub mod Ledger
 pub mod Spelled
+pub mod Laws
+pub mod Private

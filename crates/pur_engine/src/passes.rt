@@ -1,4 +1,4 @@
-// The passes in a row: from the bytes of an input to the bytes of its purification.
+//! The passes in a row: from the bytes of an input to the bytes of its purification.
 ghost use Rattle.std.specs.Prelude.{◌≡◌, ◌++◌, [], List, true, IfOk, OnOk};
 ghost use Rattle.std.specs.List.{list_all};
 ghost use Rattle.std.specs.Str.{chars};
@@ -9,22 +9,21 @@ ghost use Rattle.pur_tokens.specs.Tokens.{PlainToken};
 ghost use Rattle.pur_tokens.specs.Joining.{has_no_empty_text, tokens_given};
 ghost use Rattle.pur_tree.specs.Image.{nodes_of};
 ghost use Rattle.pur_tree.specs.Tokens.{IsTreeOf};
-ghost use Rattle.pur_wellform.specs.Closing.{closed};
 ghost use Rattle.pur_wellform.specs.Progress.{closed_behind};
 ghost use Rattle.pur_wellform.specs.Standing.{can_be_closed};
-ghost use Rattle.pur_engine.specs.Ledger.{AddsNoText};
-ghost use Rattle.pur_engine.specs.Purified.{purified};
+ghost use Rattle.pur_engine.specs.Ledger.{AddsNoText, KeepsLedger};
+ghost use Rattle.pur_engine.specs.Purified.{closed_tags, purified};
 ghost use Rattle.pur_engine.specs.Spelled.{IsSpelled};
 ghost use Rattle.pur_validity.specs.Goodness.{IsGood};
 ghost use Rattle.pur_tree.specs.Forests.{IsForest};
 
-use crate::laws::{fragments_add_no_text, fragments_are_valid, good_is_kept, trees_have_sources};
-use pur_attrs::{gives_spellable, keeps_forests, validate};
+use crate::laws::{good_is_kept, purified_adds_no_text, purified_is_good, purified_keeps_ledger};
+use pur_attrs::validate;
 use pur_foreign::{Removal, kept_is_permitted};
 use pur_lexer::{Lexer, tokens_are_joined};
-use pur_nesting::{fix_nesting, joins_texts};
+use pur_nesting::fix_nesting;
 use pur_settings::Settings;
-use pur_text::{clean_if_needed, cleaned_is_allowed};
+use pur_text::clean_if_needed;
 use pur_tokens::Token;
 use pur_tree::Forest;
 use pur_uripolicy::{UriGate, UriTest};
@@ -35,7 +34,8 @@ use std::alloc::{AllocError, Global};
 /// The purification of an input of any bytes under the settings and the gate's rule of hosts, as UTF-8: the input is cleaned and
 /// cut into tokens, foreign elements are removed, all elements are closed, each where it may stand, their nesting is repaired,
 /// their attributes are made valid, and the fragment is spelled in one way. What is written is good: valid under the settings and
-/// the rule. A good fragment is written unchanged, so purifying twice is purifying once.
+/// the rule. Its texts and what closing and nesting repair lose are the texts of the input. A good fragment is written unchanged,
+/// so purifying twice is purifying once.
 ///
 /// The gate is asked about each URI that would stand in the fragment. `pur_uripolicy::host_rule` gives the rule of the settings.
 /// The error is want of memory.
@@ -48,17 +48,14 @@ pub fn purify<F: UriTest>(
     ensures purified { IfOk result (λ text. text.items ≡ purified settings.now gate.now bytes.now) }
     ensures spelled { IfOk result (λ text. IsSpelled text.items) }
     ensures good { IfOk result (λ text. IsGood settings.now gate.now text.items) }
-    ensures adds_no_text { IfOk result (λ text. AddsNoText bytes.now text.items) }
+    ensures adds_no_text { IfOk result (λ text. AddsNoText settings.now gate.now bytes.now text.items) }
+    ensures ledger { IfOk result (λ text. KeepsLedger settings.now gate.now bytes.now text.items) }
     ensures unchanged { IfOk result (λ text. IsGood settings.now gate.now bytes.now → text.items ≡ bytes.now) }
     ensures twice { IfOk result (λ text. purified settings.now gate.now text.items ≡ text.items) }
 {
-    cleaned_is_allowed();
-    joins_texts();
-    keeps_forests();
-    gives_spellable();
-    trees_have_sources();
-    fragments_are_valid();
-    fragments_add_no_text();
+    purified_is_good();
+    purified_adds_no_text();
+    purified_keeps_ledger();
     good_is_kept();
     // whatever the settings are, their clauses say that a fragment takes any number of what it may hold, and that the prefix
     // begins an id
@@ -79,7 +76,7 @@ fn closed_tree<F: UriTest>(
     gate: &UriGate<F>,
     text: &str,
 ) -> Result<Forest, AllocError>
-    ensures tree { IfOk result (λ forest. IsTreeOf (nodes_of forest) (closed settings.now (without_foreign settings.now gate.now (tokens_of (chars text.now))))) }
+    ensures tree { IfOk result (λ forest. IsTreeOf (nodes_of forest) (closed_tags settings.now gate.now (chars text.now))) }
     ensures forest { IfOk result (λ forest. IsForest (nodes_of forest)) }
 {
     let mut closing = Closing::new(alloc, settings);

@@ -537,7 +537,12 @@ static UNDER_SETTINGS: [Row; 16] = [
 ];
 
 // Whether this is the purification of an input under the settings of a text.
-fn gives_under(alloc: Global, document: &str, input: &str, want: &str) -> Result<bool, AllocError> {
+pub(crate) fn gives_under(
+    alloc: Global,
+    document: &str,
+    input: &str,
+    want: &str,
+) -> Result<bool, AllocError> {
     if document.len() > 65_536 {
         return Ok(false);
     }

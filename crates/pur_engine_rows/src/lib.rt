@@ -6,3 +6,5 @@
 mod endings;
 #[cfg(test)]
 mod engine;
+#[cfg(test)]
+mod losses;

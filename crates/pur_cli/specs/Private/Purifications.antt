@@ -3,7 +3,7 @@ use Rattle.std.specs.Prelude.{◌≡◌, ℕ, List}
 use Rattle.pur_settings.specs.Rules.{Rules}
 use Rattle.pur_uripolicy.specs.HostRules.{PlainHostRule}
 use Rattle.pur_validity.specs.Goodness.{IsGood}
-use Rattle.pur_engine.specs.Ledger.{AddsNoText}
+use Rattle.pur_engine.specs.Ledger.{AddsNoText, KeepsLedger}
 use Rattle.pur_engine.specs.Purified.{purified}
 use Rattle.pur_engine.specs.Spelled.{IsSpelled}
 
@@ -12,6 +12,7 @@ pub record IsPurification (rules : Rules) (rule : PlainHostRule) (input text : L
   pub purified_is : text ≡ purified rules rule input
   pub spelled : IsSpelled text
   pub good : IsGood rules rule text
-  pub adds_no_text : AddsNoText input text
+  pub adds_no_text : AddsNoText rules rule input text
+  pub ledger : KeepsLedger rules rule input text
   pub unchanged : IsGood rules rule input → text ≡ input
   pub twice : purified rules rule text ≡ text
