@@ -1,5 +1,5 @@
 -- What was written is read as the same URI.
-use Rattle.std.proofs.Common.{◌≡◌, ℕ, Bool, true, false, List, [], ◌∷◌, ◌++◌, length, drop, Option, Some, None, option_map, IsUtf8, refl, sym, ap, subst, ◌∙◌, ⊎_elim, append_assoc}
+use Rattle.std.proofs.Common.{◌≡◌, ℕ, Bool, true, false, List, [], ◌∷◌, ◌++◌, length, drop, Option, Some, None, option_map, refl, sym, ap, subst, ◌∙◌, ⊎_elim, append_assoc}
 use Rattle.std.specs.Prelude.{◌==◌, ◌&&◌, ◌||◌, not, codes, is_some, if◌then◌else◌}
 use Rattle.std.specs.List.{list_all, prefix_len}
 use Rattle.std.specs.Option.{option_map_or}
@@ -10,13 +10,13 @@ use Rattle.pur_names.specs.Schemes.{scheme_name, scheme_named}
 use Rattle.pur_names.specs.declared.schemes.SchemeName.{SchemeName}
 use Rattle.pur_names.specs.declared.schemes.SchemeName.TheVariants.{Http, Https, Ftp, Nntp, Mailto, News, Tel}
 use Rattle.pur_text.specs.Hosts.{is_host}
-use Rattle.pur_uri.specs.Splitting.{Parts, tidied, is_in_query, is_in_path, is_in_authority, has_scheme, scheme_part, behind_scheme, has_authority, authority_part, behind_authority, parts_of}
+use Rattle.pur_uri.specs.Splitting.{Parts, are_bytes, tidied, is_in_query, is_in_path, is_in_authority, has_scheme, scheme_part, behind_scheme, has_authority, authority_part, behind_authority, parts_of}
 use Rattle.pur_uri.specs.Authorities.{host_of, behind_host, is_authority, is_port, port_of}
 use Rattle.pur_uri.specs.Escapes.{is_unreserved, stays_in_path, stays_in_query, written, normalised}
 use Rattle.pur_uri.specs.Private.Fronts.{escape_in_front}
 use Rattle.pur_uri.specs.Uris.{PlainUri, scheme_of, scheme_in, is_scheme, needs_authority, fits, has_reading, port_in, reading_of, uri_of_parts, uri_of, scheme_text, host_text, port_text, query_text, fragment_text, uri_text}
 use Rattle.pur_uri.proofs.AsciiLemmas.{HostsArePlain, HostsAreLowered}
-use Rattle.pur_uri.proofs.ByteLemmas.{are_bytes, bytes_take, bytes_drop, text_bytes as utf8_bytes, tidied_bytes}
+use Rattle.pur_uri.proofs.ByteLemmas.{bytes_take, bytes_drop, tidied_bytes}
 use Rattle.pur_uri.proofs.CuttingLemmas.{unlike, front_cut, behind_cut, fragment_cut, query_cut, query_rest, query_stops, tidied_same}
 use Rattle.pur_uri.proofs.EscapeLemmas.{is_escape_byte, normalised_all, normalised_byte, normalised_escape, normalised_kept}
 use Rattle.pur_uri.proofs.HostLemmas.{IsKeptPort, port_kept, authority_inside, host_again, authority_again, own_port_again}
@@ -106,11 +106,11 @@ parts_written p = record {
   fragment = option_map (normalised stays_in_query) p.fragment;
 }
 
-mapped_some : {X Y : Type 0} (f : X → Y) (o : Option X) (y : Y) → option_map f o ≡ Some y → (x : X) × ((o ≡ Some x) × (f x ≡ y))
+pub mapped_some : {X Y : Type 0} (f : X → Y) (o : Option X) (y : Y) → option_map f o ≡ Some y → (x : X) × ((o ≡ Some x) × (f x ≡ y))
 mapped_some f None y e = absurd (cc)
 mapped_some f (Some x) y e = (x, (refl, cc))
 
-mapped_none : {X Y : Type 0} (f : X → Y) (o : Option X) → option_map f o ≡ None → o ≡ None
+pub mapped_none : {X Y : Type 0} (f : X → Y) (o : Option X) → option_map f o ≡ None → o ≡ None
 mapped_none f None e = refl
 mapped_none f (Some x) e = absurd (cc)
 
@@ -138,7 +138,7 @@ query_marks = refl
 path_in_path : (b : ℕ) → stays_in_path b ≡ true → is_in_path b ≡ true
 path_in_path b is = and_from _ _ (unlike stays_in_path 0x3F b path_marks.0 is) (unlike stays_in_path 0x23 b path_marks.1.0 is)
 
-path_inside : (path : List ℕ) → list_all is_in_path (normalised stays_in_path path) ≡ true
+pub path_inside : (path : List ℕ) → list_all is_in_path (normalised stays_in_path path) ≡ true
 path_inside path = normalised_all stays_in_path is_in_path path_in_path (λ b is. path_in_path b (unreserved_in_path b is))
     (λ b is. and_from _ _ (unlike is_escape_byte 0x3F b refl is) (unlike is_escape_byte 0x23 b refl is)) path
 
@@ -152,7 +152,7 @@ path_located (b ∷ path) all first =
     let stays : stays_in_path b ≡ true = subst (λ n. stays_in_path n ≡ true) (sym (eqb-true _ _ slash)) path_marks.1.1.0 in
     ap (prefix_len is_in_authority) (normalised_kept stays_in_path path_marks.1.1.1 b path stays) ∙ cond-false _ _ _ fails
 
-placed_again : (p : Parts) → is_scheme p.scheme ≡ true → IsPlaced p.scheme p.authority p.path
+pub placed_again : (p : Parts) → is_scheme p.scheme ≡ true → IsPlaced p.scheme p.authority p.path
     → (let w = parts_written p in IsPlaced w.scheme w.authority w.path)
 placed_again p known placed =
     let scheme = scheme_in p.scheme in
@@ -216,7 +216,7 @@ authority_settles plain lowered scheme (Some a) is =
       (ap Some (host_again plain lowered (host_of a) read.0 scheme port kept), own_port_again plain lowered (host_of a) read.0 scheme port kept),
     )
 
-scheme_settles : (scheme : Option SchemeName)
+pub scheme_settles : (scheme : Option SchemeName)
     → (is_scheme (option_map scheme_name scheme) ≡ true) × (scheme_in (option_map scheme_name scheme) ≡ scheme)
 unfolding scheme_named
 scheme_settles None = (refl, refl)
@@ -247,22 +247,22 @@ empty_kept (b ∷ path) = ⊎_elim
     ∙ written_some is_unreserved some.0 (normalised stays_in_path (drop 3 (b ∷ path))) ∙ sym (not_empty b path))
     (option_cases (escape_in_front (b ∷ path)))
 
-is_some_map : {X Y : Type 0} (f : X → Y) (o : Option X) → is_some (option_map f o) ≡ is_some o
+pub is_some_map : {X Y : Type 0} (f : X → Y) (o : Option X) → is_some (option_map f o) ≡ is_some o
 is_some_map f None = refl
 is_some_map f (Some x) = refl
 
-fits_again : (scheme : Option SchemeName) (there : Bool) (path : List ℕ) → fits scheme there (normalised stays_in_path path) ≡ fits scheme there path
+pub fits_again : (scheme : Option SchemeName) (there : Bool) (path : List ℕ) → fits scheme there (normalised stays_in_path path) ≡ fits scheme there path
 unfolding fits
 fits_again (Some scheme) there path =
     ap (λ t. if needs_authority scheme then there else (not there && not t)) (empty_kept path)
 fits_again None there path = ap (λ t. there || not t) (colon_kept path)
 
-query_settles : (query : Option (List ℕ)) → ((q : List ℕ) → query ≡ Some q → are_bytes q ≡ true)
+pub query_settles : (query : Option (List ℕ)) → ((q : List ℕ) → query ≡ Some q → are_bytes q ≡ true)
     → option_map (normalised stays_in_query) (option_map (normalised stays_in_query) query) ≡ option_map (normalised stays_in_query) query
 query_settles None all = refl
 query_settles (Some q) all = ap Some (query_twice q (all q refl))
 
-same_uri : (s s' : Option SchemeName) (h h' : Option (List ℕ)) (n n' : Option ℕ) (path path' : List ℕ) (q q' f f' : Option (List ℕ))
+pub same_uri : (s s' : Option SchemeName) (h h' : Option (List ℕ)) (n n' : Option ℕ) (path path' : List ℕ) (q q' f f' : Option (List ℕ))
     → s ≡ s' → h ≡ h' → n ≡ n' → path ≡ path' → q ≡ q' → f ≡ f'
     → (let one : PlainUri = record { scheme = s; host = h; port = n; path = path; query = q; fragment = f } in one)
     ≡ (let other : PlainUri = record { scheme = s'; host = h'; port = n'; path = path'; query = q'; fragment = f' } in other)
@@ -306,17 +306,17 @@ parts_again plain p placed is =
     ∙ cut_again (scheme_in p.scheme) w.authority w.path w.query w.fragment (placed_again p known placed)
     (written_inside plain (scheme_in p.scheme) p.authority tests.1) (query_inside p.query)
 
-settled : HostsArePlain → HostsAreLowered → (p : Parts) → IsPlaced p.scheme p.authority p.path → EachPart (λ t. are_bytes t ≡ true) p → has_reading p ≡ true → uri_of (uri_text (reading_of p)) ≡ Some (reading_of p)
+pub settled : HostsArePlain → HostsAreLowered → (p : Parts) → IsPlaced p.scheme p.authority p.path → EachPart (λ t. are_bytes t ≡ true) p → has_reading p ≡ true → uri_of (uri_text (reading_of p)) ≡ Some (reading_of p)
 unfolding uri_of uri_of_parts
 settled plain lowered p placed bytes is =
     let read = read_written plain lowered p bytes is in
     ap (λ t. uri_of_parts (parts_of t)) (tidied_same (uri_text (reading_of p)) (text_bytes plain p is))
     ∙ ap uri_of_parts (parts_again plain p placed is) ∙ cond-true _ _ _ read.0 ∙ ap Some read.1
 
-pub read_again : HostsArePlain → HostsAreLowered → (raw : List ℕ) (uri : PlainUri) → IsUtf8 raw → uri_of raw ≡ Some uri → uri_of (uri_text uri) ≡ Some uri
+pub read_again : HostsArePlain → HostsAreLowered → (raw : List ℕ) (uri : PlainUri) → are_bytes raw ≡ true → uri_of raw ≡ Some uri → uri_of (uri_text uri) ≡ Some uri
 unfolding uri_of
 read_again plain lowered raw uri is e =
     let text = tidied raw in
     let read = read_from (parts_of text) uri e in
     subst (λ u. uri_of (uri_text u) ≡ Some u) (sym read.1)
-    (settled plain lowered (parts_of text) (parts_placed text) (each_part (λ t. are_bytes t ≡ true) bytes_take bytes_drop text (tidied_bytes raw (utf8_bytes raw is))) read.0)
+    (settled plain lowered (parts_of text) (parts_placed text) (each_part (λ t. are_bytes t ≡ true) bytes_take bytes_drop text (tidied_bytes raw is)) read.0)

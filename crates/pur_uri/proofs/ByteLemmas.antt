@@ -1,18 +1,12 @@
 -- The bytes of a text are numbers below 256.
-use Rattle.std.proofs.Common.{◌≡◌, ℕ, ◌+◌, ◌-◌, ◌<◌, ◌≤◌, Bool, true, List, [], ◌∷◌, length, take, drop, filter, IsUtf8, encode_utf8, encode_utf8_all, refl, subst, arith, ⊎_elim}
+use Rattle.std.proofs.Common.{◌≡◌, ℕ, ◌+◌, ◌-◌, ◌<◌, ◌≤◌, true, List, [], ◌∷◌, length, take, drop, filter, IsUtf8, encode_utf8, encode_utf8_all, refl, subst, arith, ⊎_elim}
 use lib.Utf8.{scalar, scalars, scalar_cases}
-use Rattle.std.specs.Prelude.{◌/◌, ◌%◌, nat_lt}
-use Rattle.std.specs.List.{list_all, prefix_len, suffix_len}
+use Rattle.std.specs.Prelude.{◌/◌, ◌%◌}
+use Rattle.std.specs.List.{prefix_len, suffix_len}
 use Rattle.std.proofs.lemmas.Bool.{and_parts, and_from, lt-ltb}
 use Rattle.pur_laws.proofs.Lists.{all-append, all-take, all-drop, all-filter}
 use Rattle.pur_laws.proofs.Sequences.{by_length}
-use Rattle.pur_uri.specs.Splitting.{is_kept, is_outer_space, without_leading_spaces, tidied}
-
-abbrev pub is_byte : ℕ → Bool
-is_byte b = nat_lt b 256
-
-abbrev pub are_bytes : List ℕ → Bool
-are_bytes text = list_all is_byte text
+use Rattle.pur_uri.specs.Splitting.{is_byte, are_bytes, is_kept, is_outer_space, without_leading_spaces, tidied}
 
 below : (c : ℕ) → scalar c ≡ true → c < 1114112
 below c is = ⊎_elim (λ (low : c < 55296). omega arith) (λ (high : (57344 ≤ c) × (c < 1114112)). high.1) (scalar_cases c is)

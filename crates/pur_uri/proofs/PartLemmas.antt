@@ -59,7 +59,7 @@ pub record IsPlaced (scheme authority : Option (List ℕ)) (path : List ℕ) : T
   pub local : authority ≡ None → has_authority path ≡ false
   pub relative : scheme ≡ None → authority ≡ None → has_scheme path ≡ false
 
-some_test : {X : Type 0} (test : Bool) (x y : X) → (if test then Some x else None) ≡ Some y → test ≡ true
+pub some_test : {X : Type 0} (test : Bool) (x y : X) → (if test then Some x else None) ≡ Some y → test ≡ true
 some_test true x y e = refl
 some_test false x y e = absurd (cc)
 

@@ -2,7 +2,7 @@
 use Rattle.std.proofs.Common.{◌≡◌, ℕ, Bool, true, false, List, take, drop, Some, None, subst}
 use Rattle.std.specs.Prelude.{if◌then◌else◌}
 use Rattle.std.specs.List.{prefix_len}
-use Rattle.pur_uri.specs.Splitting.{Parts, is_in_path, is_in_authority, is_in_scheme, is_in_query, has_scheme, behind_scheme, has_authority, behind_authority, behind_path, behind, begins_with, query_part, behind_query, fragment_part, parts_of}
+use Rattle.pur_uri.specs.Splitting.{Parts, is_in_path, is_in_authority, is_in_scheme, is_in_query, has_scheme, behind_scheme, has_authority, authority_part, behind_authority, behind_path, behind, begins_with, query_part, behind_query, fragment_part, parts_of}
 
 -- path, query and fragment, where they are there
 pub record EachPart (P : List ℕ → Type 0) (parts : Parts) : Type 0 where
@@ -22,16 +22,22 @@ module _ (P : List ℕ → Type 0) (fronts : (n : ℕ) (text : List ℕ) → P t
   maybe false x y holds e = absurd (cc)
 
   -- what is behind the scheme, and what is behind the authority
-  located_piece : (text : List ℕ) → P text → P (behind_scheme text)
+  pub located_piece : (text : List ℕ) → P text → P (behind_scheme text)
   unfolding behind_scheme
   located_piece text holds =
       either (has_scheme text) (drop 1 (behind is_in_scheme text)) text (ends 1 (behind is_in_scheme text) (ends (prefix_len is_in_scheme text) text holds)) holds
 
-  placed_piece : (text : List ℕ) → P text → P (behind_authority text)
+  pub placed_piece : (text : List ℕ) → P text → P (behind_authority text)
   unfolding behind_authority
   placed_piece text holds =
       either (has_authority text) (behind is_in_authority (drop 2 text)) text
       (ends (prefix_len is_in_authority (drop 2 text)) (drop 2 text) (ends 2 text holds)) holds
+
+  pub authority_piece : (text : List ℕ) → P text → (a : List ℕ) → authority_part text ≡ Some a → P a
+  unfolding authority_part
+  authority_piece text holds a e =
+      maybe (has_authority text) (take (prefix_len is_in_authority (drop 2 text)) (drop 2 text)) a
+      (fronts (prefix_len is_in_authority (drop 2 text)) (drop 2 text) (ends 2 text holds)) e
 
   pub each_part : (text : List ℕ) → P text → EachPart P (parts_of text)
   unfolding parts_of query_part behind_query fragment_part

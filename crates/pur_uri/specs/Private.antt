@@ -1,3 +1,4 @@
 -- Definitions that serve private contracts alone: no public contract says anything by them.
 pub mod Fronts
+pub mod Pieces
 pub mod References

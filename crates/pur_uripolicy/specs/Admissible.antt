@@ -4,7 +4,7 @@ use Rattle.std.specs.Option.{option_and_then, option_map_or}
 use Rattle.pur_names.specs.declared.schemes.SchemeName.{SchemeName}
 use Rattle.pur_names.specs.declared.schemes.SchemeName.TheVariants.{Http, Https, Ftp}
 use Rattle.pur_settings.specs.Rules.{Rules, permits_a_scheme}
-use Rattle.pur_tokens.specs.Attributes.{Attribute, value_of}
+use Rattle.pur_attrlist.specs.Attributes.{Attribute, value_of}
 use Rattle.pur_uri.specs.Uris.{PlainUri, uri_of}
 use Rattle.pur_uripolicy.specs.HostRules.{PlainHostRule, admits}
 use Rattle.pur_uripolicy.specs.declared.uses.UriUse.{UriUse}

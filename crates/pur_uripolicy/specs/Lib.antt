@@ -2,3 +2,4 @@ pub mod Admissible
 pub mod Asking
 pub mod HostRules
 pub mod Laws
+pub mod SchemeRules

@@ -10,12 +10,16 @@ mod hosts;
 mod laws;
 mod reading;
 mod rule;
+mod scheme_rule;
 mod site;
+mod site_gate;
 mod uses;
 
 pub use gate::{UriGate, UriTest};
 pub use laws::{uris_are_allowed, uris_are_read_again};
 pub use reading::read_uri;
 pub use rule::HostRule;
+pub use scheme_rule::SchemeRule;
 pub use site::host_rule;
+pub use site_gate::{SiteGate, SiteRule};
 pub use uses::UriUse;

@@ -1,10 +1,7 @@
-use Rattle.std.proofs.Common.{option_map, sym, ap, ◌∙◌}
-use Rattle.pur_uri.specs.Images.{plain_uri}
-use Rattle.pur_uri.specs.Uris.{uri_of}
-use Rattle.pur_uri.proofs.AgainLemmas.{read_again}
+use Rattle.std.proofs.Common.{◌≡◌, true, subst, sym}
+use Rattle.pur_uri.specs.Splitting.{are_bytes}
+use Rattle.pur_uri.proofs.ByteLemmas.{text_bytes}
 use Rattle.pur_uri.proofs.reading.canon.Goals as goal
 
-pub of_parts-requires : goal.of_parts-requires
-of_parts-requires c =
-    read_again c.host_is_plain.ensures c.host_is_lowered.ensures c.args.raw.now (plain_uri c.in-Some.parts) c.utf8.raw
-    (sym (sym (ap (option_map plain_uri) c.in-Some.is) ∙ c.in_ok-parts.ensures ∙ ap uri_of c.as_bytes.ensures.value))
+pub canon_bytes-requires : goal.canon_bytes-requires
+canon_bytes-requires c = subst (λ t. are_bytes t ≡ true) (sym c.as_bytes.ensures.value) (text_bytes c.args.raw.now c.utf8.raw)
