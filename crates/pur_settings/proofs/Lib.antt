@@ -1,6 +1,5 @@
-pub mod RankedSetLemmas
 pub mod SetLemmas
-pub mod ListLemmas
+pub mod ItemLemmas
 pub mod ReadingLemmas
 pub mod WalkLemmas
 pub mod OffenceLemmas

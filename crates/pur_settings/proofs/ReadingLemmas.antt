@@ -6,7 +6,7 @@ use Rattle.std.proofs.lemmas.Str.{IsUtf8-from_is_utf8, is_utf8-from_IsUtf8}
 use Rattle.std.specs.Option.{ok_or}
 use Rattle.toml.specs.Data.{Data, Items, item, Members, as_array}
 use Rattle.toml.specs.Parse.{parse_document}
-use Rattle.pur_settings.proofs.RankedSetLemmas.{one-more}
+use Rattle.pur_settings.proofs.SetLemmas.{one-more}
 use Rattle.pur_settings.specs.Reading.{Reading, reading_map, text_in, items_in, list_in}
 use Rattle.pur_settings.specs.Settings.{document, settings_in, settings_of}
 use Rattle.pur_settings.specs.Rules.{Rules}

@@ -1,3 +1,5 @@
+pub mod Sets
+pub mod Items
 pub mod Rules
 pub mod Prefixes
 pub mod Reading

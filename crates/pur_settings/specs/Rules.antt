@@ -7,7 +7,7 @@ use Rattle.pur_names.specs.Elements.{element_named, same_element}
 use Rattle.pur_names.specs.Properties.{same_prop}
 use Rattle.pur_names.specs.Schemes.{same_scheme}
 use Rattle.pur_names.specs.declared.attributes.Attr.{Attr}
-use Rattle.pur_names.specs.declared.attributes.Attr.TheVariants.{Id, Lang, XmlLang}
+use Rattle.pur_names.specs.declared.attributes.Attr.TheVariants.{Id}
 use Rattle.pur_names.specs.declared.elements.Element.{Element}
 use Rattle.pur_names.specs.declared.properties.StyleProp.{StyleProp}
 use Rattle.pur_names.specs.declared.schemes.SchemeName.{SchemeName}
@@ -17,16 +17,25 @@ use Rattle.pur_modules.specs.declared.kinds.Content.{Content}
 use Rattle.pur_modules.specs.declared.kinds.Content.TheVariants.{Flow, Inline}
 use Rattle.pur_modules.specs.declared.kinds.Doctype.{Doctype}
 use Rattle.pur_modules.specs.declared.kinds.Doctype.TheVariants.{Transitional}
+use Rattle.pur_settings.specs.Items.{covers}
+use Rattle.pur_settings.specs.declared.items.Item.{Item}
 
 -- the member of each key, in the order of the keys; a list that a text lacks is no list, which permits all of its sort;
--- attributes, elements, properties and schemes that are listed stand here each once, in the order in which all of them stand
+-- attributes, elements, properties and schemes that are listed or denied stand here each once, in the order in which all
+-- of them stand
 pub record Rules : Type 0 where
-  pub attributes : Option (List Attr)
+  pub attributes : Option (List Item)
   pub auto_paragraph : Bool
+  pub denied_attributes : List Item
+  pub denied_elements : List Element
   pub denied_hosts : List (List ℕ)
+  pub denied_properties : List StyleProp
+  pub denied_schemes : List SchemeName
   pub doctype : Doctype
   pub elements : Option (List Element)
+  pub escapes_foreign : Bool
   pub external : Bool
+  pub forms : Bool
   pub host : Option (List ℕ)
   pub id_prefix : List ℕ
   pub ids : Bool
@@ -40,10 +49,16 @@ abbrev pub default_rules : Rules
 default_rules = record {
   attributes = None;
   auto_paragraph = false;
+  denied_attributes = [];
+  denied_elements = [];
   denied_hosts = [];
+  denied_properties = [];
+  denied_schemes = [];
   doctype = Transitional;
   elements = None;
+  escapes_foreign = false;
   external = true;
+  forms = false;
   host = None;
   id_prefix = [];
   ids = false;
@@ -68,14 +83,15 @@ is_host_or_none (Some host) = is_host host
 abbrev pub is_in_conflict : Rules → Bool
 is_in_conflict rules = not (rules.external || is_some rules.host)
 
--- whether a list has something that passes a test; where there is no list, all is permitted
-abbrev pub is_listed : {A : Type 0} → Option (List A) → (A → Bool) → Bool
-is_listed None test = true
-is_listed (Some list) test = list_any test list
+-- whether something is listed, where there is a list, and not denied: a list has it where one of its members passes a test
+abbrev pub is_listed : {A : Type 0} → Option (List A) → List A → (A → Bool) → Bool
+is_listed None denied test = not (list_any test denied)
+is_listed (Some list) denied test = list_any test list && not (list_any test denied)
 
--- whether an element may stand in what the filter writes: the doctype has it, and it is listed
+-- whether an element may stand in what the filter writes: the doctype has it, and it is listed and not denied
 abbrev pub permits_element : Rules → Element → Bool
-permits_element rules element = is_among (elements_of rules.doctype) element && is_listed rules.elements (same_element element)
+permits_element rules element =
+    is_among (elements_of rules.doctype) element && is_listed rules.elements rules.denied_elements (same_element element)
 
 -- whether the element that was found for a name, if one was, may stand there
 abbrev pub permits_found : Rules → Option Element → Bool
@@ -86,26 +102,18 @@ permits_found rules (Some element) = permits_element rules element
 abbrev pub permits_name : Rules → List ℕ → Bool
 permits_name rules name = permits_found rules (element_named name)
 
--- whether an attribute is `lang` or `xml:lang`
-abbrev pub is_language : Attr → Bool
-is_language attr = same_attr attr Lang || same_attr attr XmlLang
-
--- whether an attribute is meant by one of a list: it is that one, or the two are `lang` and `xml:lang`
-abbrev pub is_meant : Attr → Attr → Bool
-is_meant attr listed = same_attr attr listed || (is_language attr && is_language listed)
-
--- whether an attribute may stand on an element: the doctype declares it there, and it is listed or required there; `id`
--- only where elements may have one
+-- whether an attribute may stand on an element: the doctype declares it there, and it is required there, or an item
+-- covers it where there is a list, and none that is denied; `id` only where elements may have one
 abbrev pub permits_attribute : Rules → Element → Attr → Bool
 permits_attribute rules element attr =
     list_any (same_attr attr) (attributes_of rules.doctype element)
-    && (is_listed rules.attributes (is_meant attr) || list_any (same_attr attr) (required_of element))
+    && (is_listed rules.attributes rules.denied_attributes (covers element attr) || list_any (same_attr attr) (required_of element))
     && (not (same_attr attr Id) || rules.ids)
 
 -- whether a property of CSS may stand in a style
 abbrev pub permits_property : Rules → StyleProp → Bool
-permits_property rules property = is_listed rules.properties (same_prop property)
+permits_property rules property = is_listed rules.properties rules.denied_properties (same_prop property)
 
 -- whether a URI may have a scheme
 abbrev pub permits_a_scheme : Rules → SchemeName → Bool
-permits_a_scheme rules scheme = is_listed rules.schemes (same_scheme scheme)
+permits_a_scheme rules scheme = is_listed rules.schemes rules.denied_schemes (same_scheme scheme)

@@ -1,16 +1,20 @@
 -- The settings that a TOML document gives, each found by its key, or its first offence, or the conflict that they are in.
-use Rattle.std.specs.Prelude.{◌≡◌, ◌⊎◌, IsTrue, ℕ, List, [], Option, Some, None, Ok, Err, if◌then◌else◌, codes}
+use Rattle.std.specs.Prelude.{◌≡◌, ◌⊎◌, IsTrue, ℕ, pos, false, List, [], Option, Some, None, Ok, Err, if◌then◌else◌, codes}
 use Rattle.std.specs.List.{fold}
 use Rattle.std.specs.Option.{ok_or, option_and_then, option_map_or}
+use Rattle.std.specs.Ordering.{int_eq}
 use Rattle.std.specs.Result.{result_ok, result_unwrap_or}
 use Rattle.std.specs.Str.{is_utf8}
-use Rattle.toml.specs.Data.{Data, Members, get_member}
+use Rattle.toml.specs.Data.{Data, Members, as_integer, get_member}
 use Rattle.toml.specs.Parse.{parse_document}
 use Rattle.pur_modules.specs.declared.kinds.Doctype.{Doctype}
 use Rattle.pur_settings.specs.Offences.{Offence, offences, first_of, IsFirst}
 use Rattle.pur_settings.specs.Reading.{Reading, and_then, text_in}
 use Rattle.pur_settings.specs.Rules.{Rules, default_rules, is_in_conflict}
 use Rattle.pur_settings.specs.Table.{Row, doctype_named, table_for}
+use Rattle.pur_settings.specs.declared.editions.Edition.{Edition}
+use Rattle.pur_settings.specs.declared.editions.Version.{Version}
+use Rattle.pur_settings.specs.declared.editions.Version.TheVariants.{One, Two}
 use Rattle.pur_settings.specs.declared.faults.SettingsFault.{SettingsFault}
 use Rattle.pur_settings.specs.declared.faults.SettingsFault.TheVariants.{Conflict, NotToml}
 
@@ -34,9 +38,21 @@ doctype_by found = option_map_or (λ value. result_unwrap_or (text_in doctype_na
 abbrev pub doctype_in : Members → Doctype
 doctype_in whole = doctype_by (get_member (codes "doctype") whole)
 
--- the keys that a document may have: those of the one version of the table
+-- the version of the table that a value tells: 2 where it is that whole number, and else 1
+abbrev pub version_by : Option Data → Version
+version_by found = if option_map_or (int_eq (pos 2)) (option_and_then as_integer found) false then Two else One
+
+-- the version of the table that a document is written for
+abbrev pub version_in : Members → Version
+version_in whole = version_by (get_member (codes "version") whole)
+
+-- what of a document chooses the keys and the names that it may have
+abbrev pub edition_in : Members → Edition
+edition_in whole = record { version = version_in whole; doctype = doctype_in whole }
+
+-- the keys that a document may have
 abbrev pub table_in : Members → List Row
-table_in whole = table_for (doctype_in whole)
+table_in whole = table_for (edition_in whole)
 
 -- the settings, unless they are in conflict
 abbrev pub unless_conflict : Rules → Reading Rules

@@ -1,17 +1,17 @@
 //! What a site configures: the settings, read from a TOML text or left at their defaults. Reading tells the first
-//! offence of a text in the order of its keys' bytes, and each getter answers what the text says. Whether an element is
-//! permitted is looked up in a table, so it costs the same however long the text's list is.
+//! offence of a text in the order of its keys' bytes, and each getter answers what the text says. What is
+//! permitted is looked up in tables, so it costs the same however long the text's lists are.
 
 #![tactic(auto)]
 
-mod attribute_table;
-mod element_table;
+mod editions;
 mod faults;
+mod items;
+mod name_set;
 mod prefixes;
-mod property_table;
 mod reading;
-mod scheme_table;
 mod site_settings;
+mod sorts;
 
 pub use faults::SettingsFault;
 pub use site_settings::Settings;

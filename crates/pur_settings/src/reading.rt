@@ -1,30 +1,30 @@
 //! Reading settings out of a TOML table, key by key.
 
-ghost use Rattle.std.specs.Prelude.{◌≡◌, ◌≢◌, pos, true, Ok, Err, IfOk, IfErr, OnOk, IsTrue, map, string_bytes};
+ghost use Rattle.std.specs.Prelude.{◌≡◌, ◌≢◌, true, Some, Ok, Err, IfOk, IfErr, OnOk, IsTrue, length, map, string_bytes};
 ghost use Rattle.std.specs.List.{list_all};
 ghost use Rattle.std.specs.Option.{ok_or};
-ghost use Rattle.std.specs.Ordering.{int_eq};
 ghost use Rattle.toml.specs.Data.{as_str, as_array};
 ghost use Rattle.toml.specs.View.{view, array_view, table_view};
 ghost use Rattle.pur_text.specs.Hosts.{is_host};
-ghost use Rattle.pur_names.specs.Properties.{prop_named};
-ghost use Rattle.pur_names.specs.Schemes.{scheme_named};
+ghost use Rattle.pur_names.specs.Elements.{all_elements, element_rank};
+ghost use Rattle.pur_names.specs.Properties.{all_props, prop_named, prop_rank};
+ghost use Rattle.pur_names.specs.Schemes.{all_schemes, scheme_named, scheme_rank};
+ghost use Rattle.pur_modules.specs.declared.kinds.Doctype.TheVariants.{Transitional};
+ghost use Rattle.pur_settings.specs.Items.{all_items, item_of, item_rank};
 ghost use Rattle.pur_settings.specs.Prefixes.{is_id_prefix};
 ghost use Rattle.pur_settings.specs.Private.Walk.{Ascends, with_all, with_member, with_members};
 ghost use Rattle.pur_settings.specs.Reading.{and_then, reading_map, truth_in, text_in, list_in, number_in};
 ghost use Rattle.pur_settings.specs.Rules.{is_for_fragments};
-ghost use Rattle.pur_settings.specs.Settings.{doctype_in, settings_in, unless_conflict};
-ghost use Rattle.pur_settings.specs.Table.{attribute_of, attributes_in_order, content_in_parent, doctype_named, element_of, host_named, in_order, prefix_named, properties_in_order, schemes_in_order, table_for};
+ghost use Rattle.pur_settings.specs.Sets.{each_once};
+ghost use Rattle.pur_settings.specs.Settings.{doctype_in, edition_in, settings_in, unless_conflict, version_by, version_in};
+ghost use Rattle.pur_settings.specs.Table.{content_in_parent, doctype_named, element_of, host_named, in_two, is_version, prefix_named, table_for};
 
-use crate::attribute_table::AttributeTable;
-use crate::element_table::ElementTable;
+use crate::editions::{Edition, Version};
 use crate::faults::SettingsFault;
+use crate::name_set::{NameSet, Sort};
 use crate::prefixes::is_id_prefix;
-use crate::property_table::PropertyTable;
-use crate::scheme_table::SchemeTable;
 use crate::site_settings::Settings;
-use pur_modules::{Content, Doctype, declares};
-use pur_names::{Attr, Element, SchemeName, StyleProp};
+use pur_modules::{Content, Doctype};
 use pur_text::is_host;
 use std::alloc::Global;
 use toml::{Table, Value};
@@ -35,18 +35,18 @@ pub(crate) fn read_table(alloc: Global, table: &Table) -> Result<Settings, Setti
     ensures err { IfErr result (λ fault. fault ≢ SettingsFault.Memory → settings_in (table_view table.now) ≡ Err fault) }
     ensures ordered { Ascends (table_view table.now) }
 {
-    let doctype = find_doctype(table);
-    read_members(alloc, table, doctype)
+    let edition = find_edition(table);
+    read_members(alloc, table, edition)
 }
 
 // The settings with the value of each member. What the value of one key depends on beside itself was looked up before.
-fn read_members(alloc: Global, table: &Table, doctype: Doctype) -> Result<Settings, SettingsFault>
-    ensures ok { IfOk result (λ settings. with_all (table_for doctype) (table_view table.now) ≡ Ok settings) }
-    ensures err { IfErr result (λ fault. fault ≢ SettingsFault.Memory → with_all (table_for doctype) (table_view table.now) ≡ Err fault) }
+fn read_members(alloc: Global, table: &Table, edition: Edition) -> Result<Settings, SettingsFault>
+    ensures ok { IfOk result (λ settings. with_all (table_for edition) (table_view table.now) ≡ Ok settings) }
+    ensures err { IfErr result (λ fault. fault ≢ SettingsFault.Memory → with_all (table_for edition) (table_view table.now) ≡ Err fault) }
     ensures ordered { Ascends (table_view table.now) }
 {
     let mut settings = Settings::defaults();
-    put_members(alloc, &mut settings, table, doctype)?;
+    put_members(alloc, &mut settings, table, edition)?;
     Ok(settings)
 }
 
@@ -56,11 +56,11 @@ fn put_members(
     alloc: Global,
     settings: &mut Settings,
     table: &Table,
-    doctype: Doctype,
+    edition: Edition,
 ) -> Result<(), SettingsFault>
-    ensures ok { OnOk result (and_then (with_members (table_for doctype) (table_view table.now) (record settings.old { external = true })) unless_conflict ≡ Ok settings.new) }
+    ensures ok { OnOk result (and_then (with_members (table_for edition) (table_view table.now) (record settings.old { external = true })) unless_conflict ≡ Ok settings.new) }
     ensures err { IfErr result (λ fault. fault ≢ SettingsFault.Memory →
-        and_then (with_members (table_for doctype) (table_view table.now) (record settings.old { external = true })) unless_conflict ≡ Err fault) }
+        and_then (with_members (table_for edition) (table_view table.now) (record settings.old { external = true })) unless_conflict ≡ Err fault) }
     ensures ordered { Ascends (table_view table.now) }
 {
     let mut external = true;
@@ -69,7 +69,7 @@ fn put_members(
             alloc,
             settings,
             &mut external,
-            doctype,
+            edition,
             name.as_str(),
             value,
         )?;
@@ -88,6 +88,36 @@ fn settle(settings: &mut Settings, external: bool) -> Result<(), SettingsFault>
     Ok(())
 }
 
+// What of a table chooses its keys and names.
+fn find_edition(table: &Table) -> Edition
+    ensures { result ≡ edition_in (table_view table.now) }
+{
+    Edition {
+        version: find_version(table),
+        doctype: find_doctype(table),
+    }
+}
+
+// The version that a table is written for: 2 where it says so, and else 1.
+fn find_version(table: &Table) -> Version
+    ensures { result ≡ version_in (table_view table.now) }
+{
+    match table.get("version") {
+        Some(value) => version_of(value),
+        None => Version::One,
+    }
+}
+
+// The version that a value tells.
+fn version_of(value: &Value) -> Version
+    ensures { result ≡ version_by (Some (view value.now)) }
+{
+    match value.as_integer() {
+        Some(number) if number == 2 => Version::Two,
+        _ => Version::One,
+    }
+}
+
 // The doctype that a table names; the default where it names none.
 fn find_doctype(table: &Table) -> Doctype
     ensures { result ≡ doctype_in (table_view table.now) }
@@ -103,38 +133,87 @@ fn read_member(
     alloc: Global,
     settings: &mut Settings,
     external: &mut bool,
-    doctype: Doctype,
+    edition: Edition,
     name: &str,
     value: &Value,
 ) -> Result<(), SettingsFault>
-    ensures ok { OnOk result (with_member (table_for doctype) (record settings.old { external = external.old }) name.now (view value.now)
+    ensures ok { OnOk result (with_member (table_for edition) (record settings.old { external = external.old }) name.now (view value.now)
         ≡ Ok (record settings.new { external = external.new })) }
     ensures err { IfErr result (λ fault. fault ≢ SettingsFault.Memory →
-        with_member (table_for doctype) (record settings.old { external = external.old }) name.now (view value.now) ≡ Err fault) }
+        with_member (table_for edition) (record settings.old { external = external.old }) name.now (view value.now) ≡ Err fault) }
 {
     match name {
-        "attributes" => put_attributes(settings, value),
+        "attributes" => put_attributes(settings, edition, value),
+        "auto_paragraph" => put_auto_paragraph(settings, value),
+        "denied_attributes" => put_denied_attributes(settings, edition, value),
+        "denied_elements" => put_denied_elements(settings, edition, value),
         "denied_hosts" => put_denied_hosts(alloc, settings, value),
+        "denied_properties" => put_denied_properties(settings, edition, value),
+        "denied_schemes" => put_denied_schemes(settings, edition, value),
         "doctype" => put_doctype(settings, value),
-        "elements" => put_elements(settings, doctype, value),
+        "elements" => put_elements(settings, edition, value),
         "external" => put_external(external, value),
         "host" => put_host(alloc, settings, value),
         "id_prefix" => put_id_prefix(alloc, settings, value),
         "ids" => put_ids(settings, value),
+        "linkify" => put_linkify(settings, value),
         "parent" => put_parent(settings, value),
-        "properties" => put_properties(settings, value),
-        "schemes" => put_schemes(settings, value),
+        "properties" => put_properties(settings, edition, value),
+        "schemes" => put_schemes(settings, edition, value),
         "version" => read_version(value),
         _ => Err(SettingsFault::UnknownKey),
     }
 }
 
-// Puts in the attributes that a list names.
-fn put_attributes(settings: &mut Settings, value: &Value) -> Result<(), SettingsFault>
+// Puts in the items of attributes that a list names.
+#[tactic(auto, using(crate::proofs::ItemLemmas::items_counted))]
+fn put_attributes(
+    settings: &mut Settings,
+    edition: Edition,
+    value: &Value,
+) -> Result<(), SettingsFault>
     ensures { reading_map (λ _. settings.new) result
-        ≡ reading_map (λ attrs. record settings.old { attributes = Some (attributes_in_order attrs) }) (list_in attribute_of (view value.now)) }
+        ≡ reading_map (λ names. record settings.old { attributes = Some (each_once item_rank all_items names) }) (list_in (item_of edition.version) (view value.now)) }
 {
-    settings.set_attributes(read_attributes(value)?);
+    settings.set_attributes(read_set(edition, value)?);
+    Ok(())
+}
+
+// Puts in whether blank lines make paragraphs.
+fn put_auto_paragraph(settings: &mut Settings, value: &Value) -> Result<(), SettingsFault>
+    ensures { reading_map (λ _. settings.new) result
+        ≡ reading_map (λ wanted. record settings.old { auto_paragraph = wanted }) (truth_in (view value.now)) }
+{
+    settings.set_auto_paragraph(read_truth(value)?);
+    Ok(())
+}
+
+// Puts in the items of attributes that a list denies, in version 2.
+#[tactic(auto, using(crate::proofs::ItemLemmas::items_counted))]
+fn put_denied_attributes(
+    settings: &mut Settings,
+    edition: Edition,
+    value: &Value,
+) -> Result<(), SettingsFault>
+    ensures { reading_map (λ _. settings.new) result
+        ≡ reading_map (λ names. record settings.old { denied_attributes = each_once item_rank all_items names }) (in_two edition.version (list_in (item_of edition.version) (view value.now))) }
+{
+    since_two(edition)?;
+    settings.set_denied_attributes(read_set(edition, value)?);
+    Ok(())
+}
+
+// Puts in the elements of Transitional that a list denies, in version 2.
+fn put_denied_elements(
+    settings: &mut Settings,
+    edition: Edition,
+    value: &Value,
+) -> Result<(), SettingsFault>
+    ensures { reading_map (λ _. settings.new) result
+        ≡ reading_map (λ names. record settings.old { denied_elements = each_once element_rank all_elements names }) (in_two edition.version (list_in (element_of Transitional) (view value.now))) }
+{
+    since_two(edition)?;
+    settings.set_denied_elements(read_set(in_transitional(edition), value)?);
     Ok(())
 }
 
@@ -151,6 +230,34 @@ fn put_denied_hosts(
     Ok(())
 }
 
+// Puts in the properties that a list denies, in version 2.
+fn put_denied_properties(
+    settings: &mut Settings,
+    edition: Edition,
+    value: &Value,
+) -> Result<(), SettingsFault>
+    ensures { reading_map (λ _. settings.new) result
+        ≡ reading_map (λ names. record settings.old { denied_properties = each_once prop_rank all_props names }) (in_two edition.version (list_in prop_named (view value.now))) }
+{
+    since_two(edition)?;
+    settings.set_denied_properties(read_set(edition, value)?);
+    Ok(())
+}
+
+// Puts in the schemes that a list denies, in version 2.
+fn put_denied_schemes(
+    settings: &mut Settings,
+    edition: Edition,
+    value: &Value,
+) -> Result<(), SettingsFault>
+    ensures { reading_map (λ _. settings.new) result
+        ≡ reading_map (λ names. record settings.old { denied_schemes = each_once scheme_rank all_schemes names }) (in_two edition.version (list_in scheme_named (view value.now))) }
+{
+    since_two(edition)?;
+    settings.set_denied_schemes(read_set(edition, value)?);
+    Ok(())
+}
+
 // Puts in the doctype that a value names.
 fn put_doctype(settings: &mut Settings, value: &Value) -> Result<(), SettingsFault>
     ensures { reading_map (λ _. settings.new) result
@@ -160,16 +267,16 @@ fn put_doctype(settings: &mut Settings, value: &Value) -> Result<(), SettingsFau
     Ok(())
 }
 
-// Puts in the elements of a doctype that a list names.
+// Puts in the elements of the doctype that a list names.
 fn put_elements(
     settings: &mut Settings,
-    doctype: Doctype,
+    edition: Edition,
     value: &Value,
 ) -> Result<(), SettingsFault>
     ensures { reading_map (λ _. settings.new) result
-        ≡ reading_map (λ elements. record settings.old { elements = Some (in_order elements) }) (list_in (element_of doctype) (view value.now)) }
+        ≡ reading_map (λ names. record settings.old { elements = Some (each_once element_rank all_elements names) }) (list_in (element_of edition.doctype) (view value.now)) }
 {
-    settings.set_elements(read_elements(doctype, value)?);
+    settings.set_elements(read_set(edition, value)?);
     Ok(())
 }
 
@@ -207,6 +314,14 @@ fn put_ids(settings: &mut Settings, value: &Value) -> Result<(), SettingsFault>
     Ok(())
 }
 
+// Puts in whether addresses become links.
+fn put_linkify(settings: &mut Settings, value: &Value) -> Result<(), SettingsFault>
+    ensures { reading_map (λ _. settings.new) result ≡ reading_map (λ wanted. record settings.old { linkify = wanted }) (truth_in (view value.now)) }
+{
+    settings.set_linkify(read_truth(value)?);
+    Ok(())
+}
+
 // Puts in what the fragment may hold, by the parent that a value names.
 fn put_parent(settings: &mut Settings, value: &Value) -> Result<(), SettingsFault>
     ensures { reading_map (λ _. settings.new) result
@@ -217,43 +332,72 @@ fn put_parent(settings: &mut Settings, value: &Value) -> Result<(), SettingsFaul
 }
 
 // Puts in the properties that a list names.
-fn put_properties(settings: &mut Settings, value: &Value) -> Result<(), SettingsFault>
+fn put_properties(
+    settings: &mut Settings,
+    edition: Edition,
+    value: &Value,
+) -> Result<(), SettingsFault>
     ensures { reading_map (λ _. settings.new) result
-        ≡ reading_map (λ properties. record settings.old { properties = Some (properties_in_order properties) }) (list_in prop_named (view value.now)) }
+        ≡ reading_map (λ names. record settings.old { properties = Some (each_once prop_rank all_props names) }) (list_in prop_named (view value.now)) }
 {
-    settings.set_properties(read_properties(value)?);
+    settings.set_properties(read_set(edition, value)?);
     Ok(())
 }
 
 // Puts in the schemes that a list names.
-fn put_schemes(settings: &mut Settings, value: &Value) -> Result<(), SettingsFault>
+fn put_schemes(
+    settings: &mut Settings,
+    edition: Edition,
+    value: &Value,
+) -> Result<(), SettingsFault>
     ensures { reading_map (λ _. settings.new) result
-        ≡ reading_map (λ schemes. record settings.old { schemes = Some (schemes_in_order schemes) }) (list_in scheme_named (view value.now)) }
+        ≡ reading_map (λ names. record settings.old { schemes = Some (each_once scheme_rank all_schemes names) }) (list_in scheme_named (view value.now)) }
 {
-    settings.set_schemes(read_schemes(value)?);
+    settings.set_schemes(read_set(edition, value)?);
     Ok(())
 }
 
-// The attributes that a list names.
-fn read_attributes(value: &Value) -> Result<AttributeTable, SettingsFault>
-    ensures { result ≡ reading_map attributes_in_order (list_in attribute_of (view value.now)) }
+// Nothing, in version 2; in version 1 the key of this version isn't known.
+fn since_two(edition: Edition) -> Result<(), SettingsFault>
+    ensures { result ≡ in_two edition.version (Ok tt) }
 {
-    let mut attributes = AttributeTable::new();
-    for item in read_items(value)? {
-        let attribute = read_attribute(item)?;
-        attributes.insert(attribute);
+    match edition.version {
+        Version::One => Err(SettingsFault::UnknownKey),
+        Version::Two => Ok(()),
     }
-    Ok(attributes)
 }
 
-// The attribute that a value names, which isn't `name`: the filter never writes that one.
-fn read_attribute(value: &Value) -> Result<Attr, SettingsFault>
-    ensures { result ≡ text_in attribute_of (view value.now) }
+// The edition with all elements that there are.
+fn in_transitional(edition: Edition) -> Edition
+    ensures { result ≡ record edition { doctype = Transitional } }
 {
-    match Attr::from_name(read_text(value)?) {
-        Some(attr) if attr != Attr::Name => Ok(attr),
-        _ => Err(SettingsFault::UnknownName),
+    Edition {
+        doctype: Doctype::Transitional,
+        ..edition
     }
+}
+
+// The set of what a list names.
+fn read_set<S: Sort, const N: usize>(
+    edition: Edition,
+    value: &Value,
+) -> Result<NameSet<S, N>, SettingsFault>
+    requires { length S.all ≡ N }
+    ensures { result ≡ reading_map (each_once S.rank S.all) (list_in (S.named edition) (view value.now)) }
+{
+    let mut set = NameSet::new();
+    for item in read_items(value)? {
+        let name = read_name(edition, item)?;
+        set.insert(name);
+    }
+    Ok(set)
+}
+
+// What a value names.
+fn read_name<S: Sort>(edition: Edition, value: &Value) -> Result<S, SettingsFault>
+    ensures { result ≡ text_in (S.named edition) (view value.now) }
+{
+    S::find(edition, read_text(value)?).ok_or(SettingsFault::UnknownName)
 }
 
 // The doctype that a value names.
@@ -275,28 +419,6 @@ fn read_parent(value: &Value) -> Result<Content, SettingsFault>
     match read_text(value)? {
         "div" => Ok(Content::Flow),
         "span" => Ok(Content::Inline),
-        _ => Err(SettingsFault::UnknownName),
-    }
-}
-
-// The elements of a doctype that a list names.
-fn read_elements(doctype: Doctype, value: &Value) -> Result<ElementTable, SettingsFault>
-    ensures { result ≡ reading_map in_order (list_in (element_of doctype) (view value.now)) }
-{
-    let mut elements = ElementTable::new();
-    for item in read_items(value)? {
-        let element = read_element(doctype, item)?;
-        elements.insert(element);
-    }
-    Ok(elements)
-}
-
-// The element of a doctype that a value names.
-fn read_element(doctype: Doctype, value: &Value) -> Result<Element, SettingsFault>
-    ensures { result ≡ text_in (element_of doctype) (view value.now) }
-{
-    match Element::from_name(read_text(value)?) {
-        Some(element) if declares(doctype, element) => Ok(element),
         _ => Err(SettingsFault::UnknownName),
     }
 }
@@ -356,44 +478,6 @@ fn copy_of(alloc: Global, text: &str) -> Result<String, SettingsFault>
     }
 }
 
-// The properties that a list names.
-fn read_properties(value: &Value) -> Result<PropertyTable, SettingsFault>
-    ensures { result ≡ reading_map properties_in_order (list_in prop_named (view value.now)) }
-{
-    let mut properties = PropertyTable::new();
-    for item in read_items(value)? {
-        let property = read_property(item)?;
-        properties.insert(property);
-    }
-    Ok(properties)
-}
-
-// The property that a value names.
-fn read_property(value: &Value) -> Result<StyleProp, SettingsFault>
-    ensures { result ≡ text_in prop_named (view value.now) }
-{
-    StyleProp::from_name(read_text(value)?).ok_or(SettingsFault::UnknownName)
-}
-
-// The schemes that a list names.
-fn read_schemes(value: &Value) -> Result<SchemeTable, SettingsFault>
-    ensures { result ≡ reading_map schemes_in_order (list_in scheme_named (view value.now)) }
-{
-    let mut schemes = SchemeTable::new();
-    for item in read_items(value)? {
-        let scheme = read_scheme(item)?;
-        schemes.insert(scheme);
-    }
-    Ok(schemes)
-}
-
-// The scheme that a value names.
-fn read_scheme(value: &Value) -> Result<SchemeName, SettingsFault>
-    ensures { result ≡ text_in scheme_named (view value.now) }
-{
-    SchemeName::from_name(read_text(value)?).ok_or(SettingsFault::UnknownName)
-}
-
 // The truth value that a value is.
 fn read_truth(value: &Value) -> Result<bool, SettingsFault>
     ensures { result ≡ truth_in (view value.now) }
@@ -401,12 +485,12 @@ fn read_truth(value: &Value) -> Result<bool, SettingsFault>
     value.as_bool().ok_or(SettingsFault::WrongKind)
 }
 
-// Whether a value is the one version that is known; an offence, if not.
+// Whether a value is a version that is known; an offence, if not.
 fn read_version(value: &Value) -> Result<(), SettingsFault>
-    ensures { result ≡ reading_map (λ _. tt) (number_in (int_eq (pos 1)) (view value.now)) }
+    ensures { result ≡ reading_map (λ _. tt) (number_in is_version (view value.now)) }
 {
     match value.as_integer() {
-        Some(number) if number == 1 => Ok(()),
+        Some(number) if number == 1 || number == 2 => Ok(()),
         Some(_) => Err(SettingsFault::UnknownName),
         None => Err(SettingsFault::WrongKind),
     }

@@ -3,17 +3,18 @@
 ghost use Rattle.std.specs.Prelude.{◌≡◌, ◌≢◌, IsTrue, ◌≤◌, ◌^◌, length, map, Some, Err, IfErr, is_some, not, ◌||◌, option_copied, string_bytes};
 ghost use Rattle.std.specs.List.{list_all, list_any};
 ghost use Rattle.pur_text.specs.Hosts.{is_host};
-ghost use Rattle.pur_names.specs.Attributes.{same_attr};
+ghost use Rattle.pur_settings.specs.Items.{covers, is_language};
 ghost use Rattle.pur_settings.specs.Prefixes.{is_id_prefix};
-ghost use Rattle.pur_settings.specs.Rules.{default_rules, is_for_fragments, is_host_or_none, is_in_conflict, permits_element, is_language, is_meant, permits_attribute, permits_property, permits_a_scheme};
+ghost use Rattle.pur_settings.specs.Rules.{default_rules, is_for_fragments, is_host_or_none, is_in_conflict, is_listed, permits_element, permits_attribute, permits_property, permits_a_scheme};
+ghost use Rattle.pur_settings.specs.Sets.{same};
+ghost use Rattle.pur_settings.specs.Private.Items.{is_named};
 ghost use Rattle.pur_settings.specs.Settings.{settings_of, IsRefusedFor};
 
-use crate::attribute_table::AttributeTable;
-use crate::element_table::ElementTable;
 use crate::faults::SettingsFault;
-use crate::property_table::PropertyTable;
+use crate::items::Item;
+use crate::name_set::{NameSet, Sort};
 use crate::reading::read_table;
-use crate::scheme_table::SchemeTable;
+use crate::sorts::{Elements, Items, Properties, Schemes, has_attr};
 use pur_modules::{Content, Doctype, attributes, declares, required};
 use pur_names::{Attr, Element, SchemeName, StyleProp};
 use std::alloc::Global;
@@ -26,19 +27,25 @@ use std::marker::Model;
 /// most 64 bytes.
 #[derive(Drop)]
 pub struct Settings {
-    attributes: Option<AttributeTable>,
+    attributes: Option<Items>,
     auto_paragraph: bool,
+    denied_attributes: Items,
+    denied_elements: Elements,
     denied_hosts: Option<Vec<String>>,
+    denied_properties: Properties,
+    denied_schemes: Schemes,
     doctype: Doctype,
-    elements: Option<ElementTable>,
+    elements: Option<Elements>,
+    escapes_foreign: bool,
     external: bool,
+    forms: bool,
     host: Option<String>,
     id_prefix: Option<String>,
     ids: bool,
     linkify: bool,
     parent: Content,
-    properties: Option<PropertyTable>,
-    schemes: Option<SchemeTable>,
+    properties: Option<Properties>,
+    schemes: Option<Schemes>,
 }
 
 impl Model for Settings {
@@ -55,10 +62,16 @@ impl Model for Settings {
     ghost view = { λ settings. record {
       attributes = settings.attributes;
       auto_paragraph = settings.auto_paragraph;
+      denied_attributes = settings.denied_attributes;
+      denied_elements = settings.denied_elements;
       denied_hosts = texts_held settings.denied_hosts;
+      denied_properties = settings.denied_properties;
+      denied_schemes = settings.denied_schemes;
       doctype = settings.doctype;
       elements = settings.elements;
+      escapes_foreign = settings.escapes_foreign;
       external = settings.external;
+      forms = settings.forms;
       host = option_map string_bytes settings.host;
       id_prefix = text_held settings.id_prefix;
       ids = settings.ids;
@@ -81,16 +94,23 @@ impl Settings {
     /// The settings of a site that sets nothing: all of Transitional, without ids, links or paragraphs of the filter's.
     ///
     /// No list is made, so this takes no memory.
+    #[tactic(auto, using(crate::proofs::ItemLemmas::items_counted))]
     pub fn defaults() -> Settings
         ensures { result ≡ default_rules }
     {
         Settings {
             attributes: None,
             auto_paragraph: false,
+            denied_attributes: NameSet::new(),
+            denied_elements: NameSet::new(),
             denied_hosts: None,
+            denied_properties: NameSet::new(),
+            denied_schemes: NameSet::new(),
             doctype: Doctype::Transitional,
             elements: None,
+            escapes_foreign: false,
             external: true,
+            forms: false,
             host: None,
             id_prefix: None,
             ids: false,
@@ -101,8 +121,10 @@ impl Settings {
         }
     }
 
-    /// Reads a settings text of at most 65,536 bytes: a TOML document with the keys `attributes`, `denied_hosts`,
-    /// `doctype`, `elements`, `external`, `host`, `id_prefix`, `ids`, `parent`, `properties`, `schemes` and `version` at its top level.
+    /// Reads a settings text of at most 65,536 bytes: a TOML document with the keys `attributes`,
+    /// `auto_paragraph`, `denied_hosts`, `doctype`, `elements`, `external`, `host`, `id_prefix`, `ids`, `linkify`, `parent`,
+    /// `properties`, `schemes` and `version` at its top level; where `version` is 2 also `denied_attributes`, `denied_elements`, `denied_properties` and
+    /// `denied_schemes`.
     ///
     /// Fails at the first offence in the order of the keys' bytes; after all keys, where `external` is false and `host`
     /// isn't there; and where memory is wanting.
@@ -123,15 +145,12 @@ impl Settings {
         }
     }
 
-    /// Whether the element may stand in what the filter writes: the doctype has it, and the text's list, if there is one.
+    /// Whether the element may stand in what the filter writes: the doctype has it, the text's list has it, if there is
+    /// one, and it isn't denied.
     pub fn permits(&self, element: Element) -> bool
         ensures { result ≡ permits_element self.now element }
     {
-        let listed = match &self.elements {
-            Some(elements) => elements.contains(element),
-            None => true,
-        };
-        declares(self.doctype, element) && listed
+        declares(self.doctype, element) && lists(&self.elements, &self.denied_elements, element)
     }
 
     /// The document type that the output follows.
@@ -141,39 +160,40 @@ impl Settings {
         self.doctype
     }
 
-    /// Whether the attribute may stand on the element: the doctype declares it there, and the text's list, if there is
-    /// one, has it, or the element needs it. `lang` and `xml:lang` stand for each other in the list, and an `id` also
-    /// needs `ids`.
+    /// Whether the attribute may stand on the element: the doctype declares it there, and the element needs it, or an item
+    /// of the text's list, if there is one, covers it and none that is denied. `lang` and `xml:lang` stand for each other
+    /// in an item, and an `id` also needs `ids`.
     pub fn permits_attr(&self, element: Element, attr: Attr) -> bool
         ensures { result ≡ permits_attribute self.now element attr }
     {
         let declared = has_attr(attributes(self.doctype, element), attr);
-        let listed = match &self.attributes {
-            Some(attrs) => lists_attr(attrs, attr),
-            None => true,
-        };
-        let wanted = listed || has_attr(required(element), attr);
+        let wanted = self.lists_attr(element, attr) || has_attr(required(element), attr);
         declared && wanted && (attr != Attr::Id || self.ids)
     }
 
-    /// Whether the property may stand in a style: the text's list, if there is one, has it.
-    pub fn permits_prop(&self, property: StyleProp) -> bool
-        ensures { result ≡ permits_property self.now property }
+    // Whether an item covers the attribute on the element, where there is a list, and none that is denied.
+    fn lists_attr(&self, element: Element, attr: Attr) -> bool
+        ensures { result ≡ is_listed self.now.attributes self.now.denied_attributes (covers element attr) }
     {
-        match &self.properties {
-            Some(properties) => properties.contains(property),
-            None => true,
+        let denied = has_cover(&self.denied_attributes, element, attr);
+        match &self.attributes {
+            Some(items) => has_cover(items, element, attr) && !denied,
+            None => !denied,
         }
     }
 
-    /// Whether a URI may have the scheme: the text's list, if there is one, has it.
+    /// Whether the property may stand in a style: the text's list, if there is one, has it, and it isn't denied.
+    pub fn permits_prop(&self, property: StyleProp) -> bool
+        ensures { result ≡ permits_property self.now property }
+    {
+        lists(&self.properties, &self.denied_properties, property)
+    }
+
+    /// Whether a URI may have the scheme: the text's list, if there is one, has it, and it isn't denied.
     pub fn permits_scheme(&self, scheme: SchemeName) -> bool
         ensures { result ≡ permits_a_scheme self.now scheme }
     {
-        match &self.schemes {
-            Some(schemes) => schemes.contains(scheme),
-            None => true,
-        }
+        lists(&self.schemes, &self.denied_schemes, scheme)
     }
 
     /// What may stand directly in the fragment: what a `div` holds, or what a `span` holds.
@@ -216,6 +236,20 @@ impl Settings {
         self.auto_paragraph
     }
 
+    /// Whether tags of elements that may not stand in the output are written as text.
+    pub fn escapes_foreign(&self) -> bool
+        ensures { result ≡ self.now.escapes_foreign }
+    {
+        self.escapes_foreign
+    }
+
+    /// Whether the elements of forms may stand in the output.
+    pub fn forms(&self) -> bool
+        ensures { result ≡ self.now.forms }
+    {
+        self.forms
+    }
+
     /// The hosts to which no URI may lead, themselves and below them: canonical hosts.
     pub fn denied_hosts(&self) -> &[String]
         ensures value { map string_bytes result.now ≡ self.now.denied_hosts }
@@ -247,10 +281,24 @@ impl Settings {
     }
 
     // Sets the list of attributes.
-    pub(crate) fn set_attributes(&mut self, attributes: AttributeTable)
+    pub(crate) fn set_attributes(&mut self, attributes: Items)
         ensures { self.new ≡ record self.old { attributes = Some attributes } }
     {
         self.attributes = Some(attributes);
+    }
+
+    // Sets the items of attributes that are denied.
+    pub(crate) fn set_denied_attributes(&mut self, attributes: Items)
+        ensures { self.new ≡ record self.old { denied_attributes = attributes } }
+    {
+        self.denied_attributes = attributes;
+    }
+
+    // Sets the elements that are denied.
+    pub(crate) fn set_denied_elements(&mut self, elements: Elements)
+        ensures { self.new ≡ record self.old { denied_elements = elements } }
+    {
+        self.denied_elements = elements;
     }
 
     // Sets the hosts to which no URI may lead.
@@ -261,6 +309,20 @@ impl Settings {
         self.denied_hosts = Some(hosts);
     }
 
+    // Sets the properties that are denied.
+    pub(crate) fn set_denied_properties(&mut self, properties: Properties)
+        ensures { self.new ≡ record self.old { denied_properties = properties } }
+    {
+        self.denied_properties = properties;
+    }
+
+    // Sets the schemes that are denied.
+    pub(crate) fn set_denied_schemes(&mut self, schemes: Schemes)
+        ensures { self.new ≡ record self.old { denied_schemes = schemes } }
+    {
+        self.denied_schemes = schemes;
+    }
+
     // Sets the doctype.
     pub(crate) fn set_doctype(&mut self, doctype: Doctype)
         ensures { self.new ≡ record self.old { doctype = doctype } }
@@ -269,7 +331,7 @@ impl Settings {
     }
 
     // Sets the list of elements.
-    pub(crate) fn set_elements(&mut self, elements: ElementTable)
+    pub(crate) fn set_elements(&mut self, elements: Elements)
         ensures { self.new ≡ record self.old { elements = Some elements } }
     {
         self.elements = Some(elements);
@@ -299,6 +361,20 @@ impl Settings {
         self.id_prefix = Some(prefix);
     }
 
+    // Sets whether blank lines make paragraphs.
+    pub(crate) fn set_auto_paragraph(&mut self, wanted: bool)
+        ensures { self.new ≡ record self.old { auto_paragraph = wanted } }
+    {
+        self.auto_paragraph = wanted;
+    }
+
+    // Sets whether addresses become links.
+    pub(crate) fn set_linkify(&mut self, wanted: bool)
+        ensures { self.new ≡ record self.old { linkify = wanted } }
+    {
+        self.linkify = wanted;
+    }
+
     // Sets whether elements may have an `id`.
     pub(crate) fn set_ids(&mut self, ids: bool)
         ensures { self.new ≡ record self.old { ids = ids } }
@@ -315,28 +391,49 @@ impl Settings {
     }
 
     // Sets the list of properties.
-    pub(crate) fn set_properties(&mut self, properties: PropertyTable)
+    pub(crate) fn set_properties(&mut self, properties: Properties)
         ensures { self.new ≡ record self.old { properties = Some properties } }
     {
         self.properties = Some(properties);
     }
 
     // Sets the list of schemes.
-    pub(crate) fn set_schemes(&mut self, schemes: SchemeTable)
+    pub(crate) fn set_schemes(&mut self, schemes: Schemes)
         ensures { self.new ≡ record self.old { schemes = Some schemes } }
     {
         self.schemes = Some(schemes);
     }
 }
 
-// Whether a list has an attribute that stands for this one: it has this one, or this is `lang` or `xml:lang` and it has
-// one of the two.
-#[tactic(auto, using(crate::proofs::ListLemmas::meant_by))]
-fn lists_attr(attrs: &AttributeTable, attr: Attr) -> bool
-    ensures { result ≡ list_any (is_meant attr) attrs.now }
+// Whether one is listed, where there is a list, and not denied.
+fn lists<S: Sort, const N: usize>(
+    listed: &Option<NameSet<S, N>>,
+    denied: &NameSet<S, N>,
+    one: S,
+) -> bool
+    ensures { result ≡ is_listed listed.now denied.now (same S.rank one) }
 {
-    attrs.contains(attr)
-        || is_lang(attr) && (attrs.contains(Attr::Lang) || attrs.contains(Attr::XmlLang))
+    match listed {
+        Some(set) => set.contains(one) && !denied.contains(one),
+        None => !denied.contains(one),
+    }
+}
+
+// Whether an item covers the attribute on the element: it names it, or the attribute is `lang` or `xml:lang` and it names
+// one of the two.
+fn has_cover(items: &Items, element: Element, attr: Attr) -> bool
+    ensures { result ≡ list_any (covers element attr) items.now }
+{
+    has_name(items, element, attr)
+        || is_lang(attr)
+            && (has_name(items, element, Attr::Lang) || has_name(items, element, Attr::XmlLang))
+}
+
+// Whether an item names the attribute, everywhere or on the element.
+fn has_name(items: &Items, element: Element, attr: Attr) -> bool
+    ensures { result ≡ list_any (is_named element attr) items.now }
+{
+    items.contains(Item::Everywhere(attr)) || items.contains(Item::On(element, attr))
 }
 
 // Whether the attribute is `lang` or `xml:lang`.
@@ -344,11 +441,4 @@ fn is_lang(attr: Attr) -> bool
     ensures { result ≡ is_language attr }
 {
     matches!(attr, Attr::Lang | Attr::XmlLang)
-}
-
-// Whether the attribute is in the list.
-fn has_attr(attrs: &[Attr], attr: Attr) -> bool
-    ensures { result ≡ list_any (same_attr attr) attrs.now }
-{
-    attrs.iter().any(|listed| *listed == attr)
 }

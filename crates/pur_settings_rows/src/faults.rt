@@ -25,7 +25,7 @@ static REFUSED: [Row; 18] = [
         "elements = ['font']\ndoctype = 'strict'",
         SettingsFault::UnknownName,
     ),
-    ("version = 2", SettingsFault::UnknownName),
+    ("version = 3", SettingsFault::UnknownName),
     ("version = -1", SettingsFault::UnknownName),
     (
         "version = '1'\ndoctype = 'html5'",
@@ -97,12 +97,14 @@ fn values_of_the_wrong_kind(rt: HostRuntime) {
 }
 
 // Lists and truth values of another kind.
-static OTHER_KINDS: [&str; 30] = [
+static OTHER_KINDS: [&str; 34] = [
     "attributes = 'class'",
     "attributes = true",
     "attributes = [1]",
     "attributes = ['class', ['lang'], 'onclick']",
     "[attributes]",
+    "auto_paragraph = 1",
+    "auto_paragraph = [true]",
     "denied_hosts = 'bad.com'",
     "denied_hosts = ['bad.com', 1, 'Bad.com']",
     "denied_hosts = [['bad.com']]",
@@ -120,6 +122,8 @@ static OTHER_KINDS: [&str; 30] = [
     "ids = 'true'",
     "ids = 1",
     "ids = [true]",
+    "linkify = 'true'",
+    "[linkify]",
     "properties = 'color'",
     "properties = true",
     "properties = [['color']]",
@@ -173,11 +177,19 @@ fn names_that_are_no_members(rt: HostRuntime) {
     assert_eq!(rt; other, None);
 }
 
-// Keys that no part reads so far, and one that none reads.
-static OTHER_KEYS: [&str; 3] = [
-    "auto_paragraph = true",
-    "linkify = true",
+// Keys that no part reads so far, one that none reads, and keys of version 2 in texts of version 1.
+static OTHER_KEYS: [&str; 11] = [
+    "auto_paragraphs = true",
+    "Linkify = true",
     "property = ['color']",
+    "version = 2\nforeign = 'escape'",
+    "version = 2\nforms = true",
+    "denied_elements = ['b']",
+    "denied_attributes = [1]\nversion = 1",
+    "denied_properties = ['color']\nversion = '2'",
+    "denied_schemes = ['ftp']\nversion = 2.0",
+    "denied_elements = ['b']\nversion = 3",
+    "denied_element = ['b']\nversion = 2",
 ];
 
 #[test]
@@ -186,14 +198,59 @@ fn keys_that_are_not_known(rt: HostRuntime) {
     assert_eq!(rt; other, None);
 }
 
+// Lists of version 2, each behind its first line, of another kind.
+static OTHER_LISTS: [&str; 5] = [
+    "version = 2\ndenied_attributes = 'title'",
+    "version = 2\ndenied_elements = ['b', 1]",
+    "version = 2\ndenied_properties = true",
+    "version = 2\n[denied_schemes]",
+    "version = 2\ndenied_elements = ['blink']\ndenied_attributes = [1]",
+];
+
+#[test]
+fn lists_of_version_two_of_another_kind(rt: HostRuntime) {
+    let other = first_without(rt.alloc(), &OTHER_LISTS, SettingsFault::WrongKind);
+    assert_eq!(rt; other, None);
+}
+
+// Names that aren't members of lists in version 2, and an item in version 1.
+static OTHER_ITEMS: [&str; 16] = [
+    "attributes = ['a.href']",
+    "version = 2\nattributes = ['br.lang']",
+    "version = 2\nattributes = ['a.name']",
+    "version = 2\nattributes = ['name']",
+    "version = 2\nattributes = ['p.href']",
+    "version = 2\nattributes = ['blink.title']",
+    "version = 2\nattributes = ['a.']",
+    "version = 2\nattributes = ['.href']",
+    "version = 2\nattributes = ['a.href.x']",
+    "version = 2\nattributes = ['A.href']",
+    "version = 2\nattributes = ['*.title']",
+    "version = 2\ndenied_attributes = ['onclick']",
+    "version = 2\ndenied_attributes = ['br.dir']",
+    "version = 2\ndenied_elements = ['blink']",
+    "version = 2\ndenied_properties = ['position']",
+    "version = 2\ndenied_schemes = ['javascript']",
+];
+
+#[test]
+fn items_that_are_no_members(rt: HostRuntime) {
+    let other = first_without(rt.alloc(), &OTHER_ITEMS, SettingsFault::UnknownName);
+    assert_eq!(rt; other, None);
+}
+
 // Texts that are in conflict, or would be if they had no offence, with the fault of each.
-static CONFLICTS: [Row; 6] = [
+static CONFLICTS: [Row; 7] = [
     ("external = false", SettingsFault::Conflict),
     (
         "denied_hosts = ['a.com']\nexternal = false\nids = true",
         SettingsFault::Conflict,
     ),
-    ("external = false\nversion = 2", SettingsFault::UnknownName),
+    (
+        "version = 2\ndenied_elements = ['b']\nexternal = false",
+        SettingsFault::Conflict,
+    ),
+    ("external = false\nversion = 3", SettingsFault::UnknownName),
     ("external = false\nversion = '1'", SettingsFault::WrongKind),
     ("external = false\nzone = 1", SettingsFault::UnknownKey),
     ("external = false\ncolour = 1", SettingsFault::UnknownKey),

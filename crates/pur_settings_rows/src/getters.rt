@@ -26,7 +26,7 @@ fn outcome_of(alloc: Global, text: &str) -> Result<Outcome, SettingsFault> {
     }
 }
 
-static TAKEN: [(&str, Outcome); 9] = [
+static TAKEN: [(&str, Outcome); 14] = [
     ("", (Doctype::Transitional, true, true, true)),
     ("# no key\n", (Doctype::Transitional, true, true, true)),
     ("version = 1", (Doctype::Transitional, true, true, true)),
@@ -50,6 +50,23 @@ static TAKEN: [(&str, Outcome); 9] = [
     (
         "elements = ['br']\ndoctype = 'strict'",
         (Doctype::Strict, false, false, true),
+    ),
+    ("version = 2", (Doctype::Transitional, true, true, true)),
+    (
+        "version = 2\ndenied_elements = []",
+        (Doctype::Transitional, true, true, true),
+    ),
+    (
+        "version = 2\ndenied_elements = ['p', 'p']",
+        (Doctype::Transitional, false, true, true),
+    ),
+    (
+        "version = 2\nelements = ['p', 'br']\ndenied_elements = ['br', 'font']",
+        (Doctype::Transitional, true, false, false),
+    ),
+    (
+        "version = 2\ndoctype = 'strict'\ndenied_elements = ['font', 'br']",
+        (Doctype::Strict, true, false, false),
     ),
 ];
 
@@ -129,6 +146,52 @@ fn listed_attributes_are_permitted(rt: HostRuntime) -> Result<(), Fail> {
     Ok(())
 }
 
+const LINKS_AND_TITLES: &str = "version = 2\nattributes = ['a.href', 'title', 'q.lang', 'a.id']";
+
+static ITEMS: [AttrRow; 9] = [
+    (LINKS_AND_TITLES, Element::A, Attr::Href, true),
+    (LINKS_AND_TITLES, Element::A, Attr::Title, true),
+    (LINKS_AND_TITLES, Element::P, Attr::Title, true),
+    (LINKS_AND_TITLES, Element::A, Attr::Rel, false),
+    (LINKS_AND_TITLES, Element::P, Attr::Class, false),
+    (LINKS_AND_TITLES, Element::Q, Attr::XmlLang, true),
+    (LINKS_AND_TITLES, Element::P, Attr::Lang, false),
+    (LINKS_AND_TITLES, Element::A, Attr::Id, false),
+    (LINKS_AND_TITLES, Element::Img, Attr::Src, true),
+];
+
+#[test]
+fn items_permit_on_one_element(rt: HostRuntime) -> Result<(), Fail> {
+    assert_eq!(rt; first_attr(rt.alloc(), &ITEMS)?, None);
+    Ok(())
+}
+
+const SOME_DENIED: &str =
+    "version = 2\ndenied_attributes = ['img.alt', 'xml:lang', 'a.title', 'q.lang']";
+
+const LISTED_AND_DENIED: &str =
+    "version = 2\nids = true\nattributes = ['title', 'id']\ndenied_attributes = ['p.title', 'class']";
+
+static DENIED_ATTRS: [AttrRow; 11] = [
+    (SOME_DENIED, Element::Img, Attr::Alt, true),
+    (SOME_DENIED, Element::P, Attr::Lang, false),
+    (SOME_DENIED, Element::P, Attr::XmlLang, false),
+    (SOME_DENIED, Element::A, Attr::Title, false),
+    (SOME_DENIED, Element::P, Attr::Title, true),
+    (SOME_DENIED, Element::A, Attr::Href, true),
+    (LISTED_AND_DENIED, Element::P, Attr::Title, false),
+    (LISTED_AND_DENIED, Element::Q, Attr::Title, true),
+    (LISTED_AND_DENIED, Element::Q, Attr::Class, false),
+    (LISTED_AND_DENIED, Element::P, Attr::Id, true),
+    (LISTED_AND_DENIED, Element::P, Attr::Dir, false),
+];
+
+#[test]
+fn denied_attributes_are_not_permitted(rt: HostRuntime) -> Result<(), Fail> {
+    assert_eq!(rt; first_attr(rt.alloc(), &DENIED_ATTRS)?, None);
+    Ok(())
+}
+
 static REQUIRED_ATTRS: [AttrRow; 5] = [
     ("attributes = []", Element::Img, Attr::Src, true),
     ("attributes = []", Element::Img, Attr::Alt, true),
@@ -163,6 +226,26 @@ fn ids_are_on_or_off(rt: HostRuntime) -> Result<(), Fail> {
     Ok(())
 }
 
+// Whether links, and whether paragraphs, are made.
+fn injects(alloc: Global, text: &str) -> Result<(bool, bool), SettingsFault> {
+    match settings_of(alloc, text) {
+        Ok(settings) => Ok((settings.linkify(), settings.auto_paragraph())),
+        Err(fault) => Err(fault),
+    }
+}
+
+#[test]
+fn links_and_paragraphs_are_on_or_off(rt: HostRuntime) -> Result<(), Fail> {
+    for (text, links, paragraphs) in [
+        ("linkify = true", true, false),
+        ("auto_paragraph = true\nlinkify = false", false, true),
+        ("auto_paragraph = true\nlinkify = true", true, true),
+    ] {
+        assert_eq!(rt; injects(rt.alloc(), text)?, (links, paragraphs), "{text}");
+    }
+    Ok(())
+}
+
 fn permits_scheme(alloc: Global, text: &str, scheme: SchemeName) -> Result<bool, SettingsFault> {
     match settings_of(alloc, text) {
         Ok(settings) => Ok(settings.permits_scheme(scheme)),
@@ -170,11 +253,19 @@ fn permits_scheme(alloc: Global, text: &str, scheme: SchemeName) -> Result<bool,
     }
 }
 
-static SCHEMES: [(&str, SchemeName, bool); 4] = [
+const ALL_BUT_FTP: &str = "version = 2\ndenied_schemes = ['ftp']";
+
+const NO_HTTP: &str = "version = 2\nschemes = ['http', 'https']\ndenied_schemes = ['http']";
+
+static SCHEMES: [(&str, SchemeName, bool); 8] = [
     ("schemes = ['tel', 'http', 'tel']", SchemeName::Http, true),
     ("schemes = ['tel', 'http', 'tel']", SchemeName::Tel, true),
     ("schemes = ['tel', 'http', 'tel']", SchemeName::Https, false),
     ("schemes = []", SchemeName::Http, false),
+    (ALL_BUT_FTP, SchemeName::Ftp, false),
+    (ALL_BUT_FTP, SchemeName::Tel, true),
+    (NO_HTTP, SchemeName::Http, false),
+    (NO_HTTP, SchemeName::Https, true),
 ];
 
 #[test]
@@ -195,12 +286,21 @@ fn permits_prop(alloc: Global, text: &str, property: StyleProp) -> Result<bool, 
 const THREE_PROPERTIES: &str =
     "properties = ['width', 'background-attachment', 'width', 'word-spacing']";
 
-static PROPERTIES: [(&str, StyleProp, bool); 5] = [
+const ALL_BUT_COLOR: &str = "version = 2\ndenied_properties = ['color']";
+
+const NO_WIDTH: &str =
+    "version = 2\nproperties = ['width', 'height']\ndenied_properties = ['width', 'color']";
+
+static PROPERTIES: [(&str, StyleProp, bool); 9] = [
     (THREE_PROPERTIES, StyleProp::BackgroundAttachment, true),
     (THREE_PROPERTIES, StyleProp::Width, true),
     (THREE_PROPERTIES, StyleProp::WordSpacing, true),
     (THREE_PROPERTIES, StyleProp::Height, false),
     ("properties = []", StyleProp::Width, false),
+    (ALL_BUT_COLOR, StyleProp::Color, false),
+    (ALL_BUT_COLOR, StyleProp::BackgroundColor, true),
+    (NO_WIDTH, StyleProp::Width, false),
+    (NO_WIDTH, StyleProp::Height, true),
 ];
 
 #[test]
@@ -222,6 +322,8 @@ fn are_defaults(settings: &Settings) -> bool {
         && settings.id_prefix() == ""
         && !settings.linkify()
         && !settings.auto_paragraph()
+        && !settings.escapes_foreign()
+        && !settings.forms()
         && settings.denied_hosts().is_empty()
         && settings.host().is_none()
         && settings.external()

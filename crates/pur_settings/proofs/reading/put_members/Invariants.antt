@@ -6,5 +6,5 @@ use Rattle.pur_settings.proofs.reading.put_members.Given as goal
 
 abbrev pub invariant-loop-name : goal.invariant-loop-name
 invariant-loop-name l =
-    with_members (table_for l.fn.doctype) (members_view l.table.entries) (record l.fn.settings { external = true })
-    ≡ with_members (table_for l.fn.doctype) (members_view l.name-iterator) (record l.settings { external = l.external })
+    with_members (table_for l.fn.edition) (members_view l.table.entries) (record l.fn.settings { external = true })
+    ≡ with_members (table_for l.fn.edition) (members_view l.name-iterator) (record l.settings { external = l.external })

@@ -12,13 +12,13 @@ use Rattle.pur_settings.proofs.reading.read_table.Goals as goal
 pub returns-clause-ok : goal.returns-clause-ok
 returns-clause-ok c =
     subst (λ (gives : Reading Rules). IfOk c.read_members.result (λ rules. gives ≡ Ok rules))
-    (ap (λ doctype. with_all (table_for doctype) (table_view c.args.table.now)) c.find_doctype-doctype.ensures
+    (ap (λ edition. with_all (table_for edition) (table_view c.args.table.now)) c.find_edition-edition.ensures
     ∙ walk_is_look_up (table_view c.args.table.now) c.read_members.ensures.ordered)
     c.read_members.ensures.ok
 
 pub returns-clause-err : goal.returns-clause-err
 returns-clause-err c =
     subst (λ (gives : Reading Rules). IfErr c.read_members.result (λ fault. fault ≢ Memory → gives ≡ Err fault))
-    (ap (λ doctype. with_all (table_for doctype) (table_view c.args.table.now)) c.find_doctype-doctype.ensures
+    (ap (λ edition. with_all (table_for edition) (table_view c.args.table.now)) c.find_edition-edition.ensures
     ∙ walk_is_look_up (table_view c.args.table.now) c.read_members.ensures.ordered)
     c.read_members.ensures.err
