@@ -6,10 +6,14 @@ def repeated(piece, head=b"", tail=b""):
     return lambda size: head + piece * ((size - len(head) - len(tail)) // len(piece)) + tail
 
 
-def distinct_names(size):
-    """One tag with as many distinct attribute names as there is room for."""
-    names = "".join(f" {number:x}" for number in range(size // 5))
-    return ("<font" + names)[: size - 1].encode() + b">"
+def distinct_names(front):
+    """One tag with this front, and as many distinct attribute names as there is room for."""
+
+    def tag(size):
+        names = "".join(f" {number:x}" for number in range(size // 5))
+        return (front + names)[: size - 1].encode() + b">"
+
+    return tag
 
 
 def numbered(piece):
@@ -68,7 +72,8 @@ KINDS = {
     "scripts in a script": repeated(b"<script"),
     "end marks in a script": repeated(b"</scrip", head=b"<script>"),
     "one long value": repeated(b"x", head=b"<a b='", tail=b"'>"),
-    "distinct attribute names": distinct_names,
+    "distinct attribute names": distinct_names("<font"),
+    "distinct names and an alignment": distinct_names("<p align=center"),
     "one attribute name again": repeated(b" b", head=b"<font", tail=b">"),
     "one attribute a tag": repeated(b"<p title=x>a"),
     "two attributes a tag": repeated(b"<a b=c d=e>"),
@@ -105,6 +110,15 @@ KINDS = {
     "parentheses in a style": repeated(b"(", head=b"<p style='color:", tail=b"'>x"),
     "families in a style": repeated(b"a,", head=b"<p style='font-family:", tail=b"'>x"),
     "tables in tables": repeated(b"<table><tr><td>a"),
+    "a run without an address": repeated(b"a"),
+    "prefixes of addresses": repeated(b"http://"),
+    "addresses": repeated(b"http://a.example/b "),
+    "short addresses": repeated(b"ftp://a "),
+    "colons": repeated(b"a: "),
+    "line feeds": repeated(b"\n"),
+    "lines and blank lines": repeated(b"a line of a letter\n\n"),
+    "letters and blank lines": repeated(b"a\n\n"),
+    "bold and blank lines": repeated(b"<b>a</b>\n\n"),
     "good paragraphs": repeated(b"<p></p>"),
     "good line breaks": repeated(b"<br />"),
     "good items": repeated(b"<li>a</li>", head=b"<ul>", tail=b"</ul>"),

@@ -3,7 +3,7 @@ use Rattle.std.proofs.Common.{◌≡◌, ℕ, List, Option, Some, None, refl, ap
 use Rattle.std.specs.Prelude.{codes}
 use Rattle.std.specs.Option.{option_map, option_or}
 use Rattle.std.specs.Str.{chars}
-use Rattle.pur_tokens.specs.Attributes.{Attribute, value_of}
+use Rattle.pur_attrlist.specs.Attributes.{Attribute, value_of}
 use Rattle.pur_attrs.specs.Steps.{language_told}
 
 abbrev pub text_behind : Option (Bor (List ℕ)) → Option (List ℕ)

@@ -9,9 +9,9 @@ use Rattle.pur_modules.specs.declared.kinds.Doctype.{Doctype}
 use Rattle.pur_modules.specs.declared.kinds.Doctype.TheVariants.{Strict, Transitional}
 use Rattle.pur_modules.specs.Groups.{is_among}
 use Rattle.pur_settings.specs.Rules.{Rules}
-use Rattle.pur_tokens.specs.Attributes.{Attribute, has_name, is_distinct, with_value, without}
-use Rattle.pur_tokens.proofs.AttributeLaws.{is_distinct-without}
-use Rattle.pur_tokens.proofs.DistinctLaws.{is_distinct-with_value, is_distinct-with_new, is_distinct-with_style}
+use Rattle.pur_attrlist.specs.Attributes.{Attribute, has_name, is_distinct, with_value, without}
+use Rattle.pur_attrlist.proofs.AttributeLaws.{is_distinct-without}
+use Rattle.pur_attrlist.proofs.DistinctLaws.{is_distinct-with_value, is_distinct-with_new, is_distinct-with_style}
 use Rattle.pur_tree.specs.Nodes.{Nodes, no_nodes, text_first, elem_first}
 use Rattle.pur_tree.specs.Spelling.{has_distinct_names}
 use Rattle.pur_uripolicy.specs.HostRules.{PlainHostRule}

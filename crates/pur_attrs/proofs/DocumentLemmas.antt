@@ -10,7 +10,7 @@ use Rattle.pur_text.specs.Characters.{is_allowed}
 use Rattle.pur_settings.specs.Prefixes.{begins_an_id}
 use Rattle.pur_settings.specs.Rules.{Rules}
 use Rattle.pur_values.specs.Tokens.{is_id}
-use Rattle.pur_tokens.specs.Attributes.{Attribute, is_distinct}
+use Rattle.pur_attrlist.specs.Attributes.{Attribute, is_distinct}
 use Rattle.pur_tree.specs.Nodes.{PlainElem, Nodes, no_nodes, text_first, elem_first, plain_elem}
 use Rattle.pur_tree.specs.Spelling.{has_allowed_characters, has_allowed_values, has_distinct_names, is_spellable, is_spellable_attribute}
 use Rattle.pur_uripolicy.specs.HostRules.{PlainHostRule}

@@ -14,8 +14,8 @@ use Rattle.pur_names.proofs.AttrLaws.{attr_named-name}
 use Rattle.pur_settings.specs.Rules.{Rules, permits_attribute}
 use Rattle.pur_values.specs.Tokens.{is_id}
 use Rattle.pur_values.proofs.AllowedLemmas.{id-allowed}
-use Rattle.pur_tokens.specs.Attributes.{Attribute, is_same_text, has_name, value_of, with_value}
-use Rattle.pur_tokens.proofs.TextLaws.{same_text, is_same_text-refl}
+use Rattle.pur_attrlist.specs.Attributes.{Attribute, is_same_text, has_name, value_of, with_value}
+use Rattle.pur_attrlist.proofs.TextLaws.{same_text, is_same_text-refl}
 use Rattle.pur_tree.specs.Nodes.{PlainElem, plain_elem}
 use Rattle.pur_tree.specs.Spelling.{has_allowed_values, is_spellable_attribute}
 use Rattle.pur_uri.specs.Laws.{is_canonical_byte}

@@ -5,9 +5,9 @@ use Rattle.std.specs.Option.{option_map_or}
 use Rattle.std.proofs.Math.Seq.{take-append_seam}
 use Rattle.std.proofs.lemmas.Bool.{and_parts, and_from, cond-true, cond-false, not-true}
 use Rattle.std.proofs.lemmas.List.{length-map}
-use Rattle.pur_tokens.specs.Attributes.{is_same_text}
-use Rattle.pur_tokens.proofs.AttributeLaws.{both_false}
-use Rattle.pur_tokens.proofs.TextLaws.{is_same_text-refl}
+use Rattle.pur_attrlist.specs.Attributes.{is_same_text}
+use Rattle.pur_attrlist.proofs.AttributeLaws.{both_false}
+use Rattle.pur_attrlist.proofs.TextLaws.{is_same_text-refl}
 use Rattle.pur_validity.specs.Attributes.{has_prefix, are_different}
 use Rattle.pur_attrs.specs.Ids.{with_prefix, unless_same, first_of_same, ids_kept}
 

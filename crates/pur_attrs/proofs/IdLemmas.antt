@@ -19,9 +19,9 @@ use Rattle.std.proofs.lemmas.Str.{chars-append, encodes-append, encodes-chars}
 use Rattle.std.proofs.Math.Seq.{take-append_seam}
 use Rattle.pur_laws.proofs.Lists.{any-same}
 use Rattle.pur_laws.proofs.Truth.{true_together}
-use Rattle.pur_tokens.specs.Attributes.{Attribute, is_same_text, value_of, with_value, without}
-use Rattle.pur_tokens.specs.Texts.{text_of}
-use Rattle.pur_tokens.proofs.TextLaws.{same_text, is_same_text-refl, is_same_text-sym, bytes_eq-stored}
+use Rattle.pur_attrlist.specs.Attributes.{Attribute, is_same_text, value_of, with_value, without}
+use Rattle.pur_attrlist.specs.Texts.{text_of}
+use Rattle.pur_attrlist.proofs.TextLaws.{same_text, is_same_text-refl, is_same_text-sym, bytes_eq-stored}
 use Rattle.pur_validity.specs.Attributes.{has_prefix}
 use Rattle.pur_attrs.specs.Ids.{with_prefix, with_id}
 use Rattle.pur_attrs.specs.Private.Along.{Seen, seen_in, seen_with, seen_behind, told_behind, prefixed_ids, with_id_behind}

@@ -18,9 +18,9 @@ use Rattle.pur_names.proofs.AttrLaws.{each_attr}
 use Rattle.pur_names.specs.declared.attributes.Attr.{Attr}
 use Rattle.pur_names.specs.declared.elements.Element.{Element}
 use Rattle.pur_settings.specs.Rules.{Rules, permits_attribute}
-use Rattle.pur_tokens.specs.Attributes.{Attribute, is_same_text, has_name, is_distinct, value_of, with_new}
-use Rattle.pur_tokens.proofs.AttributeLaws.{both_false, none_and_all, has_name-append}
-use Rattle.pur_tokens.proofs.TextLaws.{same_text, is_same_text-sym}
+use Rattle.pur_attrlist.specs.Attributes.{Attribute, is_same_text, has_name, is_distinct, value_of, with_new}
+use Rattle.pur_attrlist.proofs.AttributeLaws.{both_false, none_and_all, has_name-append}
+use Rattle.pur_attrlist.proofs.TextLaws.{same_text, is_same_text-sym}
 use Rattle.pur_uripolicy.specs.HostRules.{PlainHostRule}
 use Rattle.pur_validity.specs.Attributes.{attribute_read, value_on}
 use Rattle.pur_attrs.specs.Private.Parts.{with_one}

@@ -3,9 +3,9 @@ use Rattle.std.proofs.Common.{◌≡◌, ℕ, Bool, true, false, not, ◌||◌, 
 use Rattle.std.specs.List.{list_all, filter_map, cons_option}
 use Rattle.std.proofs.lemmas.Bool.{cond-true, cond-false, and_parts, and_from}
 use Rattle.pur_laws.proofs.Lists.{all-append}
-use Rattle.pur_tokens.specs.Attributes.{Attribute, is_same_text, has_name, value_of, with_value, with_new, without}
-use Rattle.pur_tokens.proofs.AttributeLaws.{value_of-absent, has_name-without_same, has_name-append, either_true}
-use Rattle.pur_tokens.proofs.TextLaws.{same_text, is_same_text-refl}
+use Rattle.pur_attrlist.specs.Attributes.{Attribute, is_same_text, has_name, value_of, with_value, with_new, without}
+use Rattle.pur_attrlist.proofs.AttributeLaws.{value_of-absent, has_name-without_same, has_name-append, either_true}
+use Rattle.pur_attrlist.proofs.TextLaws.{same_text, is_same_text-refl}
 
 pub value_of-with_same : (pairs : List Attribute) (name value : List ℕ) → value_of (with_value pairs name value) name ≡ Some value
 value_of-with_same [] name value = cond-true _ _ _ (is_same_text-refl name)

@@ -3,9 +3,9 @@ use Rattle.std.proofs.Common.{◌≡◌, ℕ, Bool, true, false, cond, List, [],
 use Rattle.std.specs.Prelude.{codes}
 use Rattle.std.specs.Option.{option_and_then, option_or}
 use Rattle.std.proofs.lemmas.Bool.{cond-true, cond-false}
-use Rattle.pur_tokens.specs.Attributes.{Attribute, is_same_text, has_name, value_of, with_new}
-use Rattle.pur_tokens.proofs.AttributeLaws.{value_of-absent}
-use Rattle.pur_tokens.proofs.TextLaws.{same_text, is_same_text-refl}
+use Rattle.pur_attrlist.specs.Attributes.{Attribute, is_same_text, has_name, value_of, with_new}
+use Rattle.pur_attrlist.proofs.AttributeLaws.{value_of-absent}
+use Rattle.pur_attrlist.proofs.TextLaws.{same_text, is_same_text-refl}
 use Rattle.pur_uri.specs.Uris.{PlainUri, uri_of}
 use Rattle.pur_validity.specs.Attributes.{source_in}
 use Rattle.pur_attrs.specs.Ids.{with_id}

@@ -8,8 +8,8 @@ use Rattle.pur_modules.specs.declared.kinds.Child.TheVariants.{Text, Elem}
 use Rattle.pur_modules.specs.declared.kinds.Content.{Content}
 use Rattle.pur_modules.specs.declared.kinds.Doctype.{Doctype}
 use Rattle.pur_settings.specs.Rules.{Rules}
-use Rattle.pur_tokens.specs.Attributes.{Attribute}
-use Rattle.pur_tokens.specs.Texts.{times}
+use Rattle.pur_attrlist.specs.Attributes.{Attribute}
+use Rattle.pur_attrlist.specs.Texts.{times}
 use Rattle.pur_tree.specs.Nodes.{PlainElem, Nodes, no_nodes, text_first, elem_first, plain_elem, bare, level_in, level_of, starts_with_text, is_joined, has_no_nodes, is_sound}
 use Rattle.pur_tree.specs.Places.{Place, fragment, inside, level_limit}
 use Rattle.pur_tree.specs.Properties.{Property, Holds, free, permitted}

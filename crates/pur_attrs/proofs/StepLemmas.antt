@@ -16,11 +16,12 @@ use Rattle.pur_modules.specs.AttributeLists.{attributes_of, required_of}
 use Rattle.pur_modules.specs.Groups.{is_among}
 use Rattle.pur_modules.specs.declared.kinds.Doctype.{Doctype}
 use Rattle.pur_modules.specs.declared.kinds.Doctype.TheVariants.{Strict, Transitional}
-use Rattle.pur_settings.specs.Rules.{Rules, permits_attribute, is_listed, is_meant}
-use Rattle.pur_tokens.specs.Attributes.{Attribute, is_same_text, has_name, value_of, without}
-use Rattle.pur_tokens.specs.Styles.{with_style, text_or_none}
-use Rattle.pur_tokens.proofs.AttributeLaws.{without-absent}
-use Rattle.pur_tokens.proofs.TextLaws.{same_text}
+use Rattle.pur_settings.specs.Rules.{Rules, permits_attribute, is_listed}
+use Rattle.pur_settings.specs.Items.{covers}
+use Rattle.pur_attrlist.specs.Attributes.{Attribute, is_same_text, has_name, value_of, without}
+use Rattle.pur_attrlist.specs.Styles.{with_style, text_or_none}
+use Rattle.pur_attrlist.proofs.AttributeLaws.{without-absent}
+use Rattle.pur_attrlist.proofs.TextLaws.{same_text}
 use Rattle.pur_tree.specs.Spelling.{has_allowed_values}
 use Rattle.pur_uripolicy.specs.HostRules.{PlainHostRule}
 use Rattle.pur_validity.specs.Attributes.{is_canonical, is_valid_attribute}
@@ -133,7 +134,7 @@ valid-declared : (rules : Rules) (rule : PlainHostRule) (element : Element) (att
 valid-declared rules rule element attr value is =
     let permits = (and_parts (permits_attribute rules element attr) (is_canonical rules rule element attr value) (sym (valid-named rules rule element attr value) ∙ is)).0 in
     let front = (and_parts _ _ permits).0 in
-    (and_parts (list_any (same_attr attr) (attributes_of rules.doctype element)) (is_listed rules.attributes (is_meant attr) || list_any (same_attr attr) (required_of element)) front).0
+    (and_parts (list_any (same_attr attr) (attributes_of rules.doctype element)) (is_listed rules.attributes rules.denied_attributes (covers element attr) || list_any (same_attr attr) (required_of element)) front).0
 
 -- so one that isn't declared is absent
 absent : (rules : Rules) (rule : PlainHostRule) (element : Element) (attrs : List Attribute) (attr : Attr)

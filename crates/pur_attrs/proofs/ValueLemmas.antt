@@ -27,7 +27,9 @@ use Rattle.pur_modules.specs.AttributeLists.{attributes_of, required_of}
 use Rattle.pur_modules.specs.declared.kinds.Doctype.{Doctype}
 use Rattle.pur_modules.specs.declared.kinds.Doctype.TheVariants.{Strict, Transitional}
 use Rattle.pur_settings.specs.Prefixes.{begins_an_id, is_id_byte}
-use Rattle.pur_settings.specs.Rules.{Rules, permits_attribute, is_listed, is_meant}
+use Rattle.pur_settings.specs.Rules.{Rules, permits_attribute, is_listed}
+use Rattle.pur_settings.specs.Items.{covers}
+use Rattle.pur_settings.proofs.ItemLemmas.{languages-covered}
 use Rattle.pur_values.specs.Kinds.{kind_of, is_declared}
 use Rattle.pur_values.specs.Laws.{AreAllowed, ReadAsItself, IsSound}
 use Rattle.pur_values.specs.Tokens.{is_id, is_id_character}
@@ -38,8 +40,8 @@ use Rattle.pur_values.specs.declared.kinds.ValueKind.TheVariants as kind
 use Rattle.pur_values.proofs.SolidLemmas.{id-solid}
 use Rattle.pur_values.proofs.TableLemmas.{agree_at}
 use Rattle.pur_values.proofs.TightLemmas.{solid-tight}
-use Rattle.pur_tokens.specs.Attributes.{Attribute, is_same_text}
-use Rattle.pur_tokens.proofs.TextLaws.{same_text, is_same_text-refl}
+use Rattle.pur_attrlist.specs.Attributes.{Attribute, is_same_text}
+use Rattle.pur_attrlist.proofs.TextLaws.{same_text, is_same_text-refl}
 use Rattle.pur_tree.specs.Spelling.{is_attr_name, is_spellable_attribute}
 use Rattle.pur_uri.specs.Escapes.{stays_in_path, stays_in_query}
 use Rattle.pur_uri.specs.Laws.{is_canonical_byte}
@@ -294,12 +296,13 @@ languages-declared Strict element =
 languages-declared Transitional element =
     same_truth _ _ (each_element (λ e. beq (list_any (same_attr Lang) (attributes_of Transitional e)) (list_any (same_attr XmlLang) (attributes_of Transitional e))) refl element)
 
-languages-meant : (listed : Attr) → is_meant Lang listed ≡ is_meant XmlLang listed
-languages-meant listed = same_truth _ _ (each_attr (λ a. beq (is_meant Lang a) (is_meant XmlLang a)) refl listed)
+listed-same : {A : Type 0} (p q : A → Bool) → ((x : A) → p x ≡ q x) → (list : Option (List A)) (denied : List A) → is_listed list denied p ≡ is_listed list denied q
+listed-same p q alike None denied = ap not (any-same p q alike denied)
+listed-same p q alike (Some list) denied = rw (any-same p q alike list, any-same p q alike denied) refl
 
-languages-listed : (list : Option (List Attr)) → is_listed list (is_meant Lang) ≡ is_listed list (is_meant XmlLang)
-languages-listed None = refl
-languages-listed (Some list) = any-same (is_meant Lang) (is_meant XmlLang) languages-meant list
+languages-listed : (rules : Rules) (element : Element)
+    → is_listed rules.attributes rules.denied_attributes (covers element Lang) ≡ is_listed rules.attributes rules.denied_attributes (covers element XmlLang)
+languages-listed rules element = listed-same (covers element Lang) (covers element XmlLang) (languages-covered element) rules.attributes rules.denied_attributes
 
 languages-required : (element : Element) → list_any (same_attr Lang) (required_of element) ≡ list_any (same_attr XmlLang) (required_of element)
 languages-required element =
@@ -310,7 +313,7 @@ three a b c d e f p q r = ap (λ x. x && (c || e) && true) p ∙ ap (λ x. b && 
 
 languages-permitted : (rules : Rules) (element : Element) → permits_attribute rules element Lang ≡ permits_attribute rules element XmlLang
 languages-permitted rules element =
-    three _ _ _ _ _ _ (languages-declared rules.doctype element) (languages-listed rules.attributes) (languages-required element)
+    three _ _ _ _ _ _ (languages-declared rules.doctype element) (languages-listed rules element) (languages-required element)
 
 -- a value is valid for both or for neither
 pub languages-valid : (rules : Rules) (rule : PlainHostRule) (element : Element) (value : List ℕ)
@@ -335,7 +338,7 @@ direction-canonical rules rule = refl
 pub direction-valid : (rules : Rules) (rule : PlainHostRule) → is_valid_attribute rules rule Bdo (codes "dir", codes "ltr") ≡ true
 direction-valid rules rule =
     valid-named rules rule Bdo Dir (codes "ltr")
-    ∙ and_from _ _ (and_from _ _ (and_from _ _ (direction-declared rules.doctype) (or_true (is_listed rules.attributes (is_meant Dir)))) refl) (direction-canonical rules rule)
+    ∙ and_from _ _ (and_from _ _ (and_from _ _ (direction-declared rules.doctype) (or_true (is_listed rules.attributes rules.denied_attributes (covers Bdo Dir)))) refl) (direction-canonical rules rule)
 
 -- ---- the text in the place of a picture
 
@@ -371,7 +374,8 @@ pub picture-permitted : (rules : Rules) (attr : Attr) → list_any (same_attr at
 picture-permitted rules attr is other =
     and_from _ _
     (and_from _ _ (pictures-have rules.doctype attr is)
-    (ap (λ b. is_listed rules.attributes (is_meant attr) || b) is ∙ or_true (is_listed rules.attributes (is_meant attr))))
+    (ap (λ b. is_listed rules.attributes rules.denied_attributes (covers Img attr) || b) is
+    ∙ or_true (is_listed rules.attributes rules.denied_attributes (covers Img attr))))
     (ap (λ b. b || rules.ids) other)
 
 alt-kind : kind_of Img Alt ≡ Some kind.Text

@@ -7,7 +7,7 @@ use Rattle.std.proofs.lemmas.Bool.Decides.{nat_tests}
 use Rattle.pur_laws.proofs.Lists.{all-weaker}
 use Rattle.pur_laws.proofs.Texts.{is_ascii}
 use Rattle.pur_settings.specs.Prefixes.{is_letter, is_id_byte, begins_an_id, is_id_prefix}
-use Rattle.pur_tokens.specs.Attributes.{is_distinct}
+use Rattle.pur_attrlist.specs.Attributes.{is_distinct}
 use Rattle.pur_tree.specs.Nodes.{Nodes, no_nodes, text_first, elem_first, nodes_append}
 use Rattle.pur_tree.specs.Spelling.{has_distinct_names}
 

@@ -2,7 +2,7 @@
 use Rattle.std.specs.Prelude.{List}
 use Rattle.pur_names.specs.declared.elements.Element.{Element}
 use Rattle.pur_settings.specs.Rules.{Rules}
-use Rattle.pur_tokens.specs.Attributes.{Attribute}
+use Rattle.pur_attrlist.specs.Attributes.{Attribute}
 use Rattle.pur_tree.specs.Nodes.{Nodes, no_nodes, elem_first, plain_elem}
 use Rattle.pur_tree.specs.Walks.{walk}
 use Rattle.pur_uripolicy.specs.HostRules.{PlainHostRule}

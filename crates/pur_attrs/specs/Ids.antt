@@ -1,6 +1,6 @@
 -- The ids of a document, as one list (XML 1.0, section 3.3.1: no two elements have one id).
 use Rattle.std.specs.Prelude.{ℕ, List, [], ◌∷◌, ◌++◌, map, take, drop, length, Option, None, Some, if◌then◌else◌, codes}
-use Rattle.pur_tokens.specs.Attributes.{Attribute, is_same_text, with_value, without}
+use Rattle.pur_attrlist.specs.Attributes.{Attribute, is_same_text, with_value, without}
 use Rattle.pur_tree.specs.Nodes.{Nodes, no_nodes, text_first, elem_first, plain_elem}
 use Rattle.pur_validity.specs.Attributes.{ids_in, ids_of, has_prefix}
 

@@ -5,7 +5,8 @@ use Rattle.pur_names.specs.declared.elements.Element.{Element}
 use Rattle.pur_names.specs.declared.elements.Element.TheVariants.{A, Bdo, Div, Img, P, Table, Td, Tr}
 use Rattle.pur_modules.specs.declared.kinds.Doctype.TheVariants.{Strict, Transitional}
 use Rattle.pur_settings.specs.Rules.{Rules, default_rules}
-use Rattle.pur_tokens.specs.Attributes.{Attribute}
+use Rattle.pur_settings.specs.declared.items.Item.TheVariants.{Everywhere}
+use Rattle.pur_attrlist.specs.Attributes.{Attribute}
 use Rattle.pur_tree.specs.Nodes.{Nodes, no_nodes, text_first, elem_first, nodes_append, plain_elem}
 use Rattle.pur_uripolicy.specs.HostRules.{PlainHostRule}
 use Rattle.pur_attrs.specs.Attributes.{with_valid_attributes}
@@ -135,7 +136,7 @@ KeepsWhatIsRequired =
 -- where `lang` alone is listed, `<p title="t" xml:lang="fr">x</p>` gives `<p xml:lang="fr" lang="fr">x</p>`
 abbrev pub KeepsWhatIsListed : Type 0
 KeepsWhatIsListed =
-    valid_under (record default_rules { attributes = Some (Lang ∷ []) }) (el P (title ∷ french ∷ []))
+    valid_under (record default_rules { attributes = Some (Everywhere Lang ∷ []) }) (el P (title ∷ french ∷ []))
     ≡ el P (french ∷ (codes "lang", codes "fr") ∷ [])
 
 -- `<table border="007px" width="150%"><tr><td colspan="0" align="RIGHT">x</td></tr></table>` gives

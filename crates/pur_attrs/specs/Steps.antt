@@ -9,8 +9,8 @@ use Rattle.pur_modules.specs.Groups.{is_among}
 use Rattle.pur_modules.specs.declared.kinds.Doctype.{Doctype}
 use Rattle.pur_modules.specs.declared.kinds.Doctype.TheVariants.{Strict, Transitional}
 use Rattle.pur_settings.specs.Rules.{Rules, permits_attribute}
-use Rattle.pur_tokens.specs.Attributes.{Attribute, is_same_text, has_name, value_of, with_value, with_new, without}
-use Rattle.pur_tokens.specs.Styles.{with_style}
+use Rattle.pur_attrlist.specs.Attributes.{Attribute, is_same_text, has_name, value_of, with_value, with_new, without}
+use Rattle.pur_attrlist.specs.Styles.{with_style}
 use Rattle.pur_uri.specs.Uris.{uri_of}
 use Rattle.pur_uripolicy.specs.HostRules.{PlainHostRule}
 use Rattle.pur_validity.specs.Attributes.{value_on}

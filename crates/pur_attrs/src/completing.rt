@@ -3,12 +3,12 @@
 ghost use Rattle.std.specs.Prelude.{◌≡◌, [], OnOk};
 ghost use Rattle.std.specs.Option.{option_map_or};
 ghost use Rattle.std.specs.Str.{chars};
-ghost use Rattle.pur_tokens.specs.Attributes.{with_new};
+ghost use Rattle.pur_attrlist.specs.Attributes.{with_new};
 ghost use Rattle.pur_attrs.specs.Steps.{language_told, with_language, last_segment, with_required, completed_attributes};
 ghost use Rattle.pur_attrs.specs.Private.Parts.{source_of};
 
+use pur_attrlist::AttrList;
 use pur_names::Element;
-use pur_tokens::AttrList;
 use pur_uri::{Uri, text_is_canonical, uri_is_canonical};
 use std::alloc::{AllocError, Global};
 

@@ -4,11 +4,11 @@
 
 ghost use Rattle.std.specs.Prelude.{◌≡◌, ℕ, List, IfOk, OnOk};
 ghost use Rattle.std.specs.Str.{chars};
-ghost use Rattle.pur_tokens.specs.Texts.{text_of};
+ghost use Rattle.pur_attrlist.specs.Texts.{text_of};
 ghost use Rattle.pur_attrs.specs.Ids.{with_prefix};
 ghost use Rattle.pur_attrs.specs.Private.Along.{seen_in, seen_behind, prefixed_ids, with_id_behind};
 
-use pur_tokens::AttrList;
+use pur_attrlist::AttrList;
 use std::alloc::{AllocError, Global};
 use std::collections::BTreeSet;
 

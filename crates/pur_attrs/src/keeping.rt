@@ -2,18 +2,18 @@
 
 ghost use Rattle.std.specs.Prelude.{◌≡◌, IfOk, OnOk};
 ghost use Rattle.std.specs.List.{filter_map};
-ghost use Rattle.pur_tokens.specs.Attributes.{with_new};
-ghost use Rattle.pur_tokens.specs.Pairs.{attribute_of};
-ghost use Rattle.pur_tokens.specs.Texts.{text_of};
+ghost use Rattle.pur_attrlist.specs.Attributes.{with_new};
+ghost use Rattle.pur_attrlist.specs.Pairs.{attribute_of};
+ghost use Rattle.pur_attrlist.specs.Texts.{text_of};
 ghost use Rattle.pur_validity.specs.Attributes.{source_in};
 ghost use Rattle.pur_attrs.specs.Steps.{kept_attribute, kept_attributes};
 ghost use Rattle.pur_attrs.specs.Private.Parts.{source_of, with_one};
 
 use crate::names::with_name_as_id;
 use crate::strict::put_strict_style;
+use pur_attrlist::{AttrList, Pair};
 use pur_names::Element;
 use pur_settings::Settings;
-use pur_tokens::{AttrList, Pair};
 use pur_uri::Uri;
 use pur_uripolicy::{UriGate, UriTest};
 use pur_validity::{Reading, read_attribute};

@@ -1,12 +1,12 @@
 //! The name of an anchor or a picture.
 
 ghost use Rattle.std.specs.Prelude.{◌≡◌, IfOk};
-ghost use Rattle.pur_tokens.specs.Pairs.{attribute_of};
+ghost use Rattle.pur_attrlist.specs.Pairs.{attribute_of};
 ghost use Rattle.pur_attrs.specs.Steps.{name_as_id, with_name_as_id};
 ghost use Rattle.pur_attrs.specs.Private.Parts.{named_by_id};
 
+use pur_attrlist::{AttrList, Pair};
 use pur_names::Element;
-use pur_tokens::{AttrList, Pair};
 use std::alloc::{AllocError, Global};
 
 /// The attributes of an element, in which the `name` of an `a` or an `img` is its `id`; where there is an `id`, the name goes.

@@ -4,13 +4,13 @@ ghost use Rattle.std.specs.Prelude.{◌≡◌, ◌++◌, IfOk, OnOk};
 ghost use Rattle.std.specs.Option.{option_map};
 ghost use Rattle.std.specs.Str.{chars};
 ghost use Rattle.pur_modules.specs.Groups.{is_among};
-ghost use Rattle.pur_tokens.specs.Texts.{text_of};
+ghost use Rattle.pur_attrlist.specs.Texts.{text_of};
 ghost use Rattle.pur_attrs.specs.Steps.{aligned, colored, cells, style_for, with_style_in};
 ghost use Rattle.pur_attrs.specs.Private.Parts.{align_style, color_style, nowrap_style, declared};
 
+use pur_attrlist::{AttrList, put_style};
 use pur_modules::Doctype;
 use pur_names::Element;
-use pur_tokens::{AttrList, put_style};
 use std::alloc::{AllocError, Global};
 
 /// Puts the style that Strict has for some of an element's attributes in front of its own. In Transitional nothing is put.

@@ -1,7 +1,8 @@
 //! Lists as a reader writes them, and one that grows past what is searched one by one.
 
 use crate::endings::{Failing, assert_holds, assert_none_fails};
-use pur_tokens::{AttrList, Pair, Tag, Token, put_style};
+use pur_attrlist::{AttrList, Pair, put_style};
+use pur_tokens::{Tag, Token};
 use std::alloc::{AllocError, Global};
 use std::mem::size_of;
 

@@ -1,10 +1,11 @@
 // The program as one call over the world outside.
-ghost use Rattle.std.specs.Prelude.{◌≡◌, ◌≢◌, ◌⊎◌, ◌+◌, ◌≤◌, map, Some, None, string_bytes, IfSome};
+ghost use Rattle.std.specs.Prelude.{◌≡◌, ◌≢◌, ◌⊎◌, ◌+◌, ◌≤◌, map, Some, None, string_bytes, IfSome, IsTrue};
 ghost use Rattle.pur_io.specs.Faults.{Rose};
 ghost use Rattle.pur_io.specs.Taken.{taken_more};
 ghost use Rattle.pur_io.specs.Texts.{text_named};
 ghost use Rattle.pur_uripolicy.specs.HostRules.{rule_of};
 ghost use Rattle.pur_validity.specs.Goodness.{IsGood};
+ghost use Rattle.pur_inject.specs.Injected.{injects_nothing};
 ghost use Rattle.pur_engine.specs.Ledger.{AddsNoText, KeepsLedger};
 ghost use Rattle.pur_engine.specs.Purified.{purified};
 ghost use Rattle.pur_engine.specs.Spelled.{IsSpelled};
@@ -96,7 +97,7 @@ pub fn run<H: Shelf, O: Sink, E: Sink>(
         (text_of (answer_of (map string_bytes words.now) texts) Status.Done)))) }
     ensures unchanged { result ≡ code_of Status.Done → IfSome (H.texts shelf.old) (λ texts.
         IfFilter (command_of (map string_bytes words.now)) (λ names. IfSome (settings_named texts names.settings) (λ rules.
-        IsGood rules (rule_of rules) (text_named texts names.input) →
+        IsTrue (injects_nothing rules) → IsGood rules (rule_of rules) (text_named texts names.input) →
         text_of (answer_of (map string_bytes words.now) texts) Status.Done ≡ text_named texts names.input))) }
     ensures twice { result ≡ code_of Status.Done → IfSome (H.texts shelf.old) (λ texts.
         IfFilter (command_of (map string_bytes words.now)) (λ names. IfSome (settings_named texts names.settings) (λ rules.

@@ -16,13 +16,14 @@ pub sound-tree_of : (nodes : Nodes) (tokens : List Token) → is_sound nodes ≡
 sound-tree_of nodes tokens sound same = sym (tree_of-tokens nodes sound) ∙ ap tree_of same
 
 -- what is no more than one part of a sum is no more than the sum
-pub at_most : (out repaired tree written lost all : ℕ) → out ≡ repaired → repaired ≤ tree → tree ≡ written → written + lost ≡ all → out ≤ all
-at_most out repaired tree written lost all same below is sum = omega arith
+pub at_most : (out made lost_making repaired tree written lost all : ℕ) → out ≡ made → made + lost_making ≡ repaired → repaired ≤ tree
+    → tree ≡ written → written + lost ≡ all → out ≤ all
+at_most out made lost_making repaired tree written lost all same making below is sum = omega arith
 
--- what came out and what was lost in two steps is what was read
-pub balanced : (out repaired tree written lost lost_later all : ℕ) → out ≡ repaired → repaired + lost_later ≡ tree → tree ≡ written → written + lost ≡ all
-    → out + (lost + lost_later) ≡ all
-balanced out repaired tree written lost lost_later all same repair is sum = omega arith
+-- what came out and what was lost in three steps is what was read
+pub balanced : (out made lost_making repaired tree written lost lost_later all : ℕ) → out ≡ made → made + lost_making ≡ repaired
+    → repaired + lost_later ≡ tree → tree ≡ written → written + lost ≡ all → out + (lost + lost_later + lost_making) ≡ all
+balanced out made lost_making repaired tree written lost lost_later all same making repair is sum = omega arith
 
 -- what is written of nodes that are spelled so
 pub written : (nodes : Nodes) {bytes : List ℕ} → Spells nodes (spelling_of nodes) → bytes ≡ encode_utf8_all (spelling_of nodes) → AreSpelled nodes bytes

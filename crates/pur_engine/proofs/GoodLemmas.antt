@@ -15,10 +15,10 @@ use Rattle.pur_names.proofs.AttrLaws.{attr_named-name}
 use Rattle.pur_names.proofs.ElementLaws.{element_named-name}
 use Rattle.pur_settings.specs.Rules.{Rules, permits_element, permits_found, permits_name, permits_attribute}
 use Rattle.pur_uripolicy.specs.Admissible.{has_source, uri_under}
-use Rattle.pur_tokens.specs.Attributes.{Attribute, is_same_text, has_name, value_of}
+use Rattle.pur_attrlist.specs.Attributes.{Attribute, is_same_text, has_name, value_of}
 use Rattle.pur_tokens.specs.Pictures.{has_good_picture, is_good_tag}
 use Rattle.pur_tokens.specs.Tokens.{PlainToken, shows_only}
-use Rattle.pur_tokens.proofs.TextLaws.{same_text}
+use Rattle.pur_attrlist.proofs.TextLaws.{same_text}
 use Rattle.pur_tree.specs.Nodes.{PlainElem, Nodes, no_nodes, text_first, elem_first}
 use Rattle.pur_tree.specs.Properties.{Holds, permitted}
 use Rattle.pur_tree.specs.Spelling.{Spells, spells_nothing, spells_text, spells_empty, spells_element}

@@ -17,7 +17,7 @@ use Rattle.pur_modules.specs.Contents.{is_empty_element}
 use Rattle.pur_entities.specs.References.{decoded, decoded_behind, number_meant}
 use Rattle.pur_entities.specs.Entities.{named_character, entities, latin_1, special, greek, other_symbols, character_in}
 use Rattle.pur_entities.proofs.ReferenceLemmas.{decoded-meant, decoded-escaped, decoded-escaped-append}
-use Rattle.pur_tokens.specs.Attributes.{Attribute, is_distinct, has_name, is_same_text, names_of}
+use Rattle.pur_attrlist.specs.Attributes.{Attribute, is_distinct, has_name, is_same_text, names_of}
 use Rattle.pur_tokens.specs.Joining as joining
 use Rattle.pur_tokens.specs.Tokens as read
 use Rattle.pur_engine.proofs.TextLemmas.{is_text}

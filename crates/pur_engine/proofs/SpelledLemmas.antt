@@ -12,7 +12,7 @@ use Rattle.pur_names.specs.declared.elements.Element.{Element}
 use Rattle.pur_names.specs.Elements.{element_name}
 use Rattle.pur_names.proofs.ElementLaws.{each_element}
 use Rattle.pur_modules.specs.Contents.{is_empty_element}
-use Rattle.pur_tokens.specs.Attributes.{Attribute}
+use Rattle.pur_attrlist.specs.Attributes.{Attribute}
 use Rattle.pur_tree.specs.Nodes.{PlainElem, Nodes, no_nodes, text_first, elem_first, starts_with_text, is_joined, is_sound, has_no_nodes}
 use Rattle.pur_tree.specs.Spelling.{Spells, spells_nothing, spells_text, spells_empty, spells_element, is_spellable, are_spellable}
 

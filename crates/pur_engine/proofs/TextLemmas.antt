@@ -10,7 +10,7 @@ use Rattle.pur_names.specs.declared.elements.Element.{Element}
 use Rattle.pur_names.specs.Elements.{element_name}
 use Rattle.pur_names.specs.Attributes.{all_attrs}
 use Rattle.pur_names.proofs.ElementLaws.{each_element}
-use Rattle.pur_tokens.specs.Attributes.{Attribute, is_distinct}
+use Rattle.pur_attrlist.specs.Attributes.{Attribute, is_distinct}
 use Rattle.pur_tokens.specs.Joining as read
 use Rattle.pur_tokens.specs.Tokens.{PlainToken}
 use Rattle.pur_tree.specs.Nodes.{PlainElem, Nodes, no_nodes, text_first, elem_first, starts_with_text}

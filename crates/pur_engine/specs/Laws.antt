@@ -15,9 +15,10 @@ use Rattle.pur_validity.specs.Validity.{IsValid}
 use Rattle.pur_wellform.specs.Closing.{closed}
 use Rattle.pur_wellform.specs.Laws.{as_read}
 use Rattle.pur_nesting.specs.Nesting.{nested, permits_of}
+use Rattle.pur_inject.specs.Injected.{injected, injects_nothing}
 use Rattle.pur_attrs.specs.Attributes.{with_valid_attributes}
 use Rattle.pur_engine.specs.Ledger.{AddsNoText, KeepsLedger}
-use Rattle.pur_engine.specs.Purified.{purified, purified_nodes}
+use Rattle.pur_engine.specs.Purified.{nested_tree, purified, purified_nodes}
 
 -- what holds under every settings that a settings text can give: their parent holds a fragment, and their prefix begins an id
 abbrev pub UnderSettings : (Rules → Type 0) → Type 0
@@ -75,10 +76,15 @@ NestingLeavesGood = OfGood (λ rules rule nodes text. nested (permits_of rules) 
 abbrev pub AttributesLeaveGood : Type 0
 AttributesLeaveGood = OfGood (λ rules rule nodes text. with_valid_attributes rules rule nodes ≡ nodes)
 
--- so the fragment that the text becomes is the nodes
-abbrev pub GoodStays : Type 0
-GoodStays = OfGood (λ rules rule nodes text. purified_nodes rules rule text ≡ nodes)
+-- so what the text is before links and paragraphs are made is the nodes
+abbrev pub GoodReachesInjectors : Type 0
+GoodReachesInjectors = OfGood (λ rules rule nodes text. nested_tree rules rule text ≡ nodes)
 
--- a good fragment is its own purification
+-- and the fragment that it becomes is the nodes, where neither is made
+abbrev pub GoodStays : Type 0
+GoodStays = OfGood (λ rules rule nodes text. IsTrue (injects_nothing rules) → purified_nodes rules rule text ≡ nodes)
+
+-- a good fragment is its own purification then
 abbrev pub GoodIsKept : Type 0
-GoodIsKept = (rules : Rules) (rule : PlainHostRule) (bytes : List ℕ) → IsGood rules rule bytes → purified rules rule bytes ≡ bytes
+GoodIsKept = (rules : Rules) (rule : PlainHostRule) (bytes : List ℕ) → IsTrue (injects_nothing rules) → IsGood rules rule bytes
+    → purified rules rule bytes ≡ bytes

@@ -11,6 +11,7 @@ use Rattle.pur_tree.specs.Spelling.{spelling_of}
 use Rattle.pur_uripolicy.specs.HostRules.{PlainHostRule}
 use Rattle.pur_wellform.specs.Closing.{closed}
 use Rattle.pur_nesting.specs.Nesting.{nested, permits_of}
+use Rattle.pur_inject.specs.Injected.{injected}
 use Rattle.pur_attrs.specs.Attributes.{with_valid_attributes}
 
 -- the tokens of a cleaned text that stay when foreign elements are removed
@@ -29,9 +30,13 @@ closed_tree rules rule text = tree_of (closed_tags rules rule text)
 abbrev pub nested_tree : Rules → PlainHostRule → List ℕ → Nodes
 nested_tree rules rule text = nested (permits_of rules) (closed_tree rules rule text)
 
+-- this tree with links and paragraphs, as far as the settings want them
+abbrev pub injected_tree : Rules → PlainHostRule → List ℕ → Nodes
+injected_tree rules rule text = injected rules rule (nested_tree rules rule text)
+
 -- the fragment that a cleaned text becomes: this tree after its attributes were made valid
 abbrev pub purified_nodes : Rules → PlainHostRule → List ℕ → Nodes
-purified_nodes rules rule text = with_valid_attributes rules rule (nested_tree rules rule text)
+purified_nodes rules rule text = with_valid_attributes rules rule (injected_tree rules rule text)
 
 -- the purification of an input under settings and a rule of hosts: the spelling of the fragment that its cleaned text becomes, as UTF-8
 unfoldable pub purified : Rules → PlainHostRule → List ℕ → List ℕ

@@ -6,12 +6,17 @@ ghost use Rattle.pur_settings.specs.Prefixes.{begins_an_id};
 ghost use Rattle.pur_settings.specs.Rules.{Rules, is_for_fragments};
 ghost use Rattle.pur_text.specs.Characters.{is_allowed};
 ghost use Rattle.pur_uripolicy.specs.HostRules.{PlainHostRule};
-ghost use Rattle.pur_engine.specs.Private.Fragments.{TreeIsClosed, TreeIsReady, FragmentIsGood, FragmentIsCounted};
+ghost use Rattle.pur_engine.specs.Purified.{injected_tree, nested_tree};
+ghost use Rattle.pur_engine.specs.Private.Fragments.{TreeIsClosed, AreReady, FragmentIsGood, FragmentIsCounted};
 
-use pur_attrs::{gives_spellable, gives_valid_attributes, keeps_words};
+use pur_attrs::{gives_spellable, gives_valid_attributes};
 use pur_foreign::{
     kept_is_permitted, kept_pictures_have_sources, removal_keeps_allowed, removal_keeps_distinct,
     removal_keeps_texts,
+};
+use pur_inject::{
+    links_keep, links_keep_counts, links_keep_words, paragraphs_keep, paragraphs_keep_counts,
+    paragraphs_keep_words,
 };
 use pur_lexer::{tokens_are_allowed, tokens_are_distinct, tokens_are_joined};
 use pur_nesting::{
@@ -36,12 +41,18 @@ pub(crate) fn trees_are_closed()
     closed_is_forest();
 }
 
-/// Nesting repair leaves allowed characters alone of a text of allowed characters, no name twice in an element, and pictures with
-/// admissible sources alone.
-pub(crate) fn trees_are_ready()
-    ensures { (rules : Rules) (rule : PlainHostRule) (text : List ℕ) → IsTrue (list_all is_allowed text) → TreeIsReady rules rule text }
+/// What nesting repair leaves of a text of allowed characters is valid once its attributes are.
+pub(crate) fn nested_is_ready()
+    ensures { (rules : Rules) (rule : PlainHostRule) (text : List ℕ) → IsTrue (is_for_fragments rules.parent) → IsTrue (list_all is_allowed text)
+        → AreReady rules rule (nested_tree rules rule text) }
 {
     trees_are_closed();
+    gives_a_word();
+    gives_words();
+    pur_nesting::keeps_free();
+    pur_nesting::keeps_permitted();
+    pur_nesting::keeps_forests();
+    joins_texts();
     tokens_are_allowed();
     removal_keeps_allowed();
     closed_is_allowed();
@@ -55,22 +66,27 @@ pub(crate) fn trees_are_ready()
     keeps_pictures();
 }
 
+/// And so is that with links and paragraphs.
+pub(crate) fn injected_is_ready()
+    ensures { (rules : Rules) (rule : PlainHostRule) (text : List ℕ) → IsTrue (is_for_fragments rules.parent) → IsTrue (list_all is_allowed text)
+        → AreReady rules rule (injected_tree rules rule text) }
+{
+    nested_is_ready();
+    links_keep();
+    links_keep_words();
+    paragraphs_keep();
+    paragraphs_keep_words();
+}
+
 /// What a text of allowed characters becomes is valid, and its spelling can be read back.
 pub(crate) fn fragments_are_good()
     ensures { (rules : Rules) (rule : PlainHostRule) (text : List ℕ) → IsTrue (is_for_fragments rules.parent) → IsTrue (begins_an_id rules.id_prefix)
         → IsTrue (list_all is_allowed text) → FragmentIsGood rules rule text }
 {
-    trees_are_closed();
-    trees_are_ready();
-    gives_a_word();
-    gives_words();
-    pur_nesting::keeps_free();
-    pur_nesting::keeps_permitted();
-    pur_nesting::keeps_forests();
-    joins_texts();
+    injected_is_ready();
     gives_valid_attributes();
     gives_spellable();
-    keeps_words();
+    pur_attrs::keeps_words();
     pur_attrs::keeps_distinct();
     pur_attrs::keeps_free();
     pur_attrs::keeps_permitted();
@@ -79,7 +95,7 @@ pub(crate) fn fragments_are_good()
 }
 
 /// Each character stands in what a text becomes no more often than in the text's tokens; and one that isn't white space stands
-/// there as often, but for what closing and nesting repair lose.
+/// there as often, but for what closing, nesting repair and injecting lose.
 pub(crate) fn fragments_are_counted()
     ensures { (rules : Rules) (rule : PlainHostRule) (text : List ℕ) (c : ℕ) → FragmentIsCounted rules rule text c }
 {
@@ -89,5 +105,7 @@ pub(crate) fn fragments_are_counted()
     counts_alike();
     never_more();
     pur_nesting::keeps_counts();
+    links_keep_counts();
+    paragraphs_keep_counts();
     pur_attrs::keeps_counts();
 }

@@ -1,9 +1,10 @@
 //! Laws of purifications, each the contract of a function that does nothing.
-ghost use Rattle.pur_engine.specs.Laws.{PurifiedIsGood, PurifiedAddsNoText, PurifiedKeepsLedger, PurifiedOnce, SpelledIsCleaned, SpelledIsRead, RemovalLeavesGood, ClosingLeavesGood, NestingLeavesGood, AttributesLeaveGood, GoodStays, GoodIsKept};
+ghost use Rattle.pur_engine.specs.Laws.{PurifiedIsGood, PurifiedAddsNoText, PurifiedKeepsLedger, PurifiedOnce, SpelledIsCleaned, SpelledIsRead, RemovalLeavesGood, ClosingLeavesGood, NestingLeavesGood, AttributesLeaveGood, GoodReachesInjectors, GoodStays, GoodIsKept};
 
-use crate::fragments::{fragments_are_counted, fragments_are_good};
-use pur_attrs::leaves_valid;
+use crate::fragments::{fragments_are_counted, fragments_are_good, nested_is_ready};
+use pur_attrs::{keeps_nodes, leaves_valid};
 use pur_foreign::permitted_stays;
+use pur_inject::{injects_nothing, injects_once};
 use pur_lexer::written_is_read;
 use pur_nesting::{leaves_settled, valid_are_settled, words_are_letters};
 use pur_text::{allowed_is_cleaned, cleaned_is_allowed};
@@ -37,12 +38,18 @@ pub fn purified_keeps_ledger()
     fragments_are_counted();
 }
 
-/// Purifying twice is purifying once.
+/// Purifying twice is purifying once, also where links and paragraphs are made.
 pub fn purified_once()
     ensures { PurifiedOnce }
 {
-    purified_is_good();
-    good_is_kept();
+    cleaned_is_allowed();
+    nested_is_ready();
+    fragments_are_good();
+    spelled_is_cleaned();
+    good_reaches_injectors();
+    keeps_nodes();
+    injects_once();
+    attributes_leave_good();
 }
 
 /// A text that nodes are spelled as is cleaned to itself.
@@ -91,18 +98,26 @@ pub fn attributes_leave_good()
     leaves_valid();
 }
 
-/// What the text of a good fragment becomes is its nodes.
-pub fn good_stays()
-    ensures { GoodStays }
+/// What the text of a good fragment is before links and paragraphs are made is its nodes.
+pub fn good_reaches_injectors()
+    ensures { GoodReachesInjectors }
 {
     spelled_is_read();
     removal_leaves_good();
     closing_leaves_good();
     nesting_leaves_good();
+}
+
+/// What the text of a good fragment becomes is its nodes, where the settings want neither links nor paragraphs.
+pub fn good_stays()
+    ensures { GoodStays }
+{
+    good_reaches_injectors();
+    injects_nothing();
     attributes_leave_good();
 }
 
-/// A good fragment is its own purification.
+/// A good fragment is its own purification, where the settings want neither links nor paragraphs.
 pub fn good_is_kept()
     ensures { GoodIsKept }
 {

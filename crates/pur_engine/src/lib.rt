@@ -7,8 +7,8 @@ mod laws;
 mod passes;
 
 pub use laws::{
-    attributes_leave_good, closing_leaves_good, good_is_kept, good_stays, nesting_leaves_good,
-    purified_adds_no_text, purified_is_good, purified_keeps_ledger, purified_once,
-    removal_leaves_good, spelled_is_cleaned, spelled_is_read,
+    attributes_leave_good, closing_leaves_good, good_is_kept, good_reaches_injectors, good_stays,
+    nesting_leaves_good, purified_adds_no_text, purified_is_good, purified_keeps_ledger,
+    purified_once, removal_leaves_good, spelled_is_cleaned, spelled_is_read,
 };
 pub use passes::purify;

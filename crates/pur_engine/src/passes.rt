@@ -1,30 +1,35 @@
 //! The passes in a row: from the bytes of an input to the bytes of its purification.
-ghost use Rattle.std.specs.Prelude.{◌≡◌, ◌++◌, [], List, true, IfOk, OnOk};
+ghost use Rattle.std.specs.Prelude.{◌≡◌, ◌++◌, [], List, true, IfOk, IsTrue, OnOk};
 ghost use Rattle.std.specs.List.{list_all};
 ghost use Rattle.std.specs.Str.{chars};
 ghost use Rattle.pur_lexer.specs.Lexing.{tokens_of};
 ghost use Rattle.pur_foreign.specs.Keeping.{kept_behind};
 ghost use Rattle.pur_foreign.specs.Removal.{without_foreign};
 ghost use Rattle.pur_tokens.specs.Tokens.{PlainToken};
-ghost use Rattle.pur_tokens.specs.Joining.{has_no_empty_text, tokens_given};
+ghost use Rattle.pur_tokens.specs.Joining.{has_no_empty_text};
+ghost use Rattle.pur_tokens.specs.Shown.{shown_given};
 ghost use Rattle.pur_tree.specs.Image.{nodes_of};
 ghost use Rattle.pur_tree.specs.Tokens.{IsTreeOf};
 ghost use Rattle.pur_wellform.specs.Progress.{closed_behind};
 ghost use Rattle.pur_wellform.specs.Standing.{can_be_closed};
+ghost use Rattle.pur_inject.specs.Injected.{injects_nothing};
 ghost use Rattle.pur_engine.specs.Ledger.{AddsNoText, KeepsLedger};
 ghost use Rattle.pur_engine.specs.Purified.{closed_tags, purified};
 ghost use Rattle.pur_engine.specs.Spelled.{IsSpelled};
 ghost use Rattle.pur_validity.specs.Goodness.{IsGood};
 ghost use Rattle.pur_tree.specs.Forests.{IsForest};
 
-use crate::laws::{good_is_kept, purified_adds_no_text, purified_is_good, purified_keeps_ledger};
+use crate::laws::{
+    good_is_kept, purified_adds_no_text, purified_is_good, purified_keeps_ledger, purified_once,
+};
 use pur_attrs::validate;
 use pur_foreign::{Removal, kept_is_permitted};
+use pur_inject::{auto_paragraph, linkify};
 use pur_lexer::{Lexer, tokens_are_joined};
 use pur_nesting::fix_nesting;
 use pur_settings::Settings;
 use pur_text::clean_if_needed;
-use pur_tokens::Token;
+use pur_tokens::Shown;
 use pur_tree::Forest;
 use pur_uripolicy::{UriGate, UriTest};
 use pur_wellform::Closing;
@@ -33,9 +38,10 @@ use std::alloc::{AllocError, Global};
 
 /// The purification of an input of any bytes under the settings and the gate's rule of hosts, as UTF-8: the input is cleaned and
 /// cut into tokens, foreign elements are removed, all elements are closed, each where it may stand, their nesting is repaired,
-/// their attributes are made valid, and the fragment is spelled in one way. What is written is good: valid under the settings and
-/// the rule. Its texts and what closing and nesting repair lose are the texts of the input. A good fragment is written unchanged,
-/// so purifying twice is purifying once.
+/// links and paragraphs are made where the settings want them, attributes are made valid, and the fragment is spelled in one way.
+/// What is written is good: valid under the settings and the rule. Its texts and what is lost on the way are the texts of the input.
+/// Where the settings want neither links nor paragraphs a good fragment is written unchanged; purifying twice is always purifying
+/// once.
 ///
 /// The gate is asked about each URI that would stand in the fragment. `pur_uripolicy::host_rule` gives the rule of the settings.
 /// The error is want of memory.
@@ -50,12 +56,13 @@ pub fn purify<F: UriTest>(
     ensures good { IfOk result (λ text. IsGood settings.now gate.now text.items) }
     ensures adds_no_text { IfOk result (λ text. AddsNoText settings.now gate.now bytes.now text.items) }
     ensures ledger { IfOk result (λ text. KeepsLedger settings.now gate.now bytes.now text.items) }
-    ensures unchanged { IfOk result (λ text. IsGood settings.now gate.now bytes.now → text.items ≡ bytes.now) }
+    ensures unchanged { IfOk result (λ text. IsTrue (injects_nothing settings.now) → IsGood settings.now gate.now bytes.now → text.items ≡ bytes.now) }
     ensures twice { IfOk result (λ text. purified settings.now gate.now text.items ≡ text.items) }
 {
     purified_is_good();
     purified_adds_no_text();
     purified_keeps_ledger();
+    purified_once();
     good_is_kept();
     // whatever the settings are, their clauses say that a fragment takes any number of what it may hold, and that the prefix
     // begins an id
@@ -64,6 +71,8 @@ pub fn purify<F: UriTest>(
     let text = clean_if_needed(alloc, bytes)?;
     let mut forest = closed_tree(alloc, settings, gate, text.as_str())?;
     fix_nesting(alloc, settings, &mut forest)?;
+    linkify(alloc, settings, gate, &mut forest)?;
+    auto_paragraph(alloc, settings, &mut forest)?;
     validate(alloc, settings, gate, &mut forest)?;
     let output = write(alloc, &forest)?;
     Ok(output)
@@ -143,14 +152,14 @@ fn put_tokens<F: UriTest>(
 }
 
 // Closes what stays next of the tokens, if anything does.
-fn put_kept(closing: &mut Closing<'_>, kept: Option<Token>) -> Result<(), AllocError>
-    requires { list_all (can_be_closed closing.old.rules) (tokens_given kept) ≡ true }
-    ensures ok { OnOk result ((more : List PlainToken) → closed_behind closing.new more ≡ closed_behind closing.old (tokens_given kept ++ more)) }
+fn put_kept(closing: &mut Closing<'_>, kept: Option<Shown>) -> Result<(), AllocError>
+    requires { list_all (can_be_closed closing.old.rules) (shown_given kept) ≡ true }
+    ensures ok { OnOk result ((more : List PlainToken) → closed_behind closing.new more ≡ closed_behind closing.old (shown_given kept ++ more)) }
     ensures rules { closing.new.rules ≡ closing.old.rules }
 {
     match kept {
-        Some(token) => {
-            closing.put(token)?;
+        Some(shown) => {
+            closing.put(shown)?;
             Ok(())
         }
         None => Ok(()),

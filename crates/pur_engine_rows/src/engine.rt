@@ -437,7 +437,13 @@ fn repairs_nesting(rt: HostRuntime) {
 // A name, a text of settings, an input and its purification under these settings.
 type Row = (&'static str, &'static str, &'static str, &'static str);
 
-static UNDER_SETTINGS: [Row; 16] = [
+static UNDER_SETTINGS: [Row; 17] = [
+    (
+        "a_denied_element_goes",
+        "version = 2\ndenied_elements = [\"b\"]",
+        "<b><i>x</b>y</i>",
+        "<i>xy</i>",
+    ),
     (
         "only_breaks_are_permitted",
         "elements = [\"br\"]",
@@ -568,7 +574,25 @@ fn purifies_under_settings(rt: HostRuntime) {
 }
 
 // A name, a text of settings, an input and its purification under these settings, where attributes are made valid.
-static OF_ATTRIBUTES: [Row; 25] = [
+static OF_ATTRIBUTES: [Row; 28] = [
+    (
+        "an_item_permits_on_one_element",
+        "version = 2\nattributes = [\"a.href\", \"title\"]",
+        "<a href=\"x\" title=\"t\" rel=\"next\">y</a><p title=\"u\" class=\"c\">z</p>",
+        "<a href=\"x\" title=\"t\">y</a><p title=\"u\">z</p>",
+    ),
+    (
+        "what_an_element_needs_can_not_be_denied",
+        "version = 2\ndenied_attributes = [\"img.alt\"]",
+        "<img src=\"x\" alt=\"\" />",
+        "<img src=\"x\" alt=\"\" />",
+    ),
+    (
+        "a_denied_scheme_is_no_link",
+        "version = 2\ndenied_schemes = [\"ftp\"]",
+        "<a href=\"ftp://h/\">x</a>",
+        "<a>x</a>",
+    ),
     (
         "a_script_is_no_link",
         "",

@@ -7,4 +7,6 @@ mod endings;
 #[cfg(test)]
 mod engine;
 #[cfg(test)]
+mod injectors;
+#[cfg(test)]
 mod losses;

@@ -14,9 +14,9 @@ use Rattle.pur_names.specs.Elements.{element_name, element_named}
 use Rattle.pur_names.proofs.ElementLaws.{each_element}
 use Rattle.pur_modules.specs.declared.kinds.Doctype.{Doctype}
 use Rattle.pur_modules.specs.declared.kinds.Doctype.TheVariants.{Strict, Transitional}
-use Rattle.pur_tokens.specs.Attributes.{Attribute, is_same_text, value_of, with_value, without}
+use Rattle.pur_attrlist.specs.Attributes.{Attribute, is_same_text, value_of, with_value, without}
 use Rattle.pur_tokens.specs.Characters.{attribute_has_only, token_has_only}
-use Rattle.pur_tokens.specs.Styles.{text_or_none, with_style}
+use Rattle.pur_attrlist.specs.Styles.{text_or_none, with_style}
 use Rattle.pur_tokens.proofs.JoiningLaws.{only-joined}
 use Rattle.pur_tokens.specs.Tokens.{PlainToken, text_token, start_token, end_token, empty_token, hidden_token, comment_token}
 use Rattle.pur_settings.specs.Rules.{Rules, permits_element}

@@ -10,11 +10,11 @@ use Rattle.pur_names.specs.declared.elements.Element.{Element}
 use Rattle.pur_names.specs.declared.elements.Element.TheVariants.{Font}
 use Rattle.pur_modules.specs.declared.kinds.Doctype.{Doctype}
 use Rattle.pur_modules.specs.declared.kinds.Doctype.TheVariants.{Strict, Transitional}
-use Rattle.pur_tokens.specs.Attributes.{Attribute, is_distinct, without}
+use Rattle.pur_attrlist.specs.Attributes.{Attribute, is_distinct, without}
 use Rattle.pur_tokens.specs.Distinct.{shows_distinct}
 use Rattle.pur_tokens.specs.Tokens.{PlainToken, text_token, start_token, end_token, empty_token, hidden_token, comment_token}
-use Rattle.pur_tokens.proofs.AttributeLaws.{is_distinct-without}
-use Rattle.pur_tokens.proofs.DistinctLaws.{is_distinct-with_style}
+use Rattle.pur_attrlist.proofs.AttributeLaws.{is_distinct-without}
+use Rattle.pur_attrlist.proofs.DistinctLaws.{is_distinct-with_style}
 use Rattle.pur_tokens.proofs.JoiningLaws.{all-joined}
 use Rattle.pur_settings.specs.Rules.{Rules, permits_element}
 use Rattle.pur_uripolicy.specs.HostRules.{PlainHostRule}

@@ -5,7 +5,7 @@ use Rattle.std.proofs.lemmas.Bool.{and_from, and_parts}
 use Rattle.pur_laws.proofs.Lists.{all-append}
 use Rattle.pur_names.specs.Elements.{element_name, element_named}
 use Rattle.pur_names.specs.declared.elements.Element.{Element}
-use Rattle.pur_tokens.specs.Attributes.{Attribute}
+use Rattle.pur_attrlist.specs.Attributes.{Attribute}
 use Rattle.pur_tokens.specs.Joining.{is_some_token, has_no_empty_text, has_no_neighbours, count_in_token, count_in_text}
 use Rattle.pur_tokens.specs.Tokens.{PlainToken, text_token, start_token, end_token, empty_token, hidden_token, comment_token}
 use Rattle.pur_tokens.proofs.JoiningLaws.{count-append, count-joined, neighbours-joined, some-joined}

@@ -1,11 +1,12 @@
 -- What stays of tokens, one after another.
 use Rattle.std.proofs.Common.{◌≡◌, ℕ, List, [], ◌∷◌, ◌++◌, true, false, flat_map, sym, ap, ◌∙◌, refl, Option, Some, None, option_map}
 use Rattle.pur_tokens.proofs.JoiningLaws.{ends}
-use Rattle.pur_tokens.specs.Joining.{joined, held_before, tokens_given}
+use Rattle.pur_tokens.specs.Joining.{joined, held_before}
+use Rattle.pur_tokens.specs.Shown.{plain_shown, shown_given}
 use Rattle.pur_laws.proofs.Truth.{and_false}
-use Rattle.pur_tokens.specs.Attributes.{Attribute}
-use Rattle.pur_tokens.specs.Tokens.{PlainToken, plain_token, end_token}
-use Rattle.pur_tokens.specs.declared.tokens.Token.{Token}
+use Rattle.pur_attrlist.specs.Attributes.{Attribute}
+use Rattle.pur_tokens.specs.Tokens.{PlainToken, end_token}
+use Rattle.pur_tokens.specs.declared.shown.Shown.{Shown}
 use Rattle.pur_names.specs.declared.elements.Element.{Element}
 use Rattle.pur_names.specs.Elements.{element_name}
 use Rattle.pur_settings.specs.Rules.{Rules, permits_element}
@@ -26,10 +27,10 @@ pub kept-begun : (rules : Rules) (rule : PlainHostRule) (tokens : List PlainToke
 unfolding kept_behind
 kept-begun rules rule tokens = refl
 
-pub kept-ended : (rules : Rules) (rule : PlainHostRule) (held : Option Token) → kept_behind rules rule (option_map plain_token held) [] ≡ tokens_given held
+pub kept-ended : (rules : Rules) (rule : PlainHostRule) (held : Option Shown) → kept_behind rules rule (option_map plain_shown held) [] ≡ shown_given held
 unfolding kept_behind without_foreign joined
 kept-ended rules rule None = refl
-kept-ended rules rule (Some token) = ends (plain_token token) [] refl
+kept-ended rules rule (Some shown) = ends (plain_shown shown) [] refl
 
 -- an end tag goes or stays with the leave of its element
 pub end-goes : (rules : Rules) (e : Element) → permits_element rules (element_in rules.doctype e) ≡ false → [] ≡ end_image rules (Some e)

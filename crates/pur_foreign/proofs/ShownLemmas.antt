@@ -6,7 +6,7 @@ use Rattle.pur_laws.proofs.Lists.{all-append}
 use Rattle.pur_names.specs.Elements.{element_name, element_named}
 use Rattle.pur_names.specs.declared.elements.Element.{Element}
 use Rattle.pur_names.proofs.ElementLaws.{element_named-name}
-use Rattle.pur_tokens.specs.Attributes.{Attribute}
+use Rattle.pur_attrlist.specs.Attributes.{Attribute}
 use Rattle.pur_tokens.specs.Joining.{has_no_empty_text, is_some_token}
 use Rattle.pur_tokens.specs.Tokens.{PlainToken, shows_only, text_token, start_token, end_token, empty_token, hidden_token, comment_token}
 use Rattle.pur_tokens.proofs.JoiningLaws.{shown-joined}

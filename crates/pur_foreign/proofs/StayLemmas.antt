@@ -10,7 +10,7 @@ use Rattle.pur_names.specs.declared.elements.Element.TheVariants.{Center, Dir, F
 use Rattle.pur_modules.specs.Groups.{is_among, elements_of}
 use Rattle.pur_modules.specs.declared.kinds.Doctype.{Doctype}
 use Rattle.pur_modules.specs.declared.kinds.Doctype.TheVariants.{Strict, Transitional}
-use Rattle.pur_tokens.specs.Attributes.{Attribute}
+use Rattle.pur_attrlist.specs.Attributes.{Attribute}
 use Rattle.pur_tokens.specs.Joining.{joined, has_no_neighbours}
 use Rattle.pur_tokens.specs.Pictures.{has_good_picture, is_good_tag}
 use Rattle.pur_tokens.specs.Tokens.{PlainToken, shows_only, text_token, start_token, end_token, empty_token, hidden_token, comment_token}
@@ -60,7 +60,7 @@ stands-same Transitional e has = record { element = refl; attributes = λ attrs.
 
 module _ (rules : Rules) (rule : PlainHostRule) where
   itself : (e : Element) → permits_element rules e ≡ true → StandsForItself rules.doctype e
-  itself e permitted = stands-same rules.doctype e (and_parts (is_among (elements_of rules.doctype) e) (is_listed rules.elements (same_element e)) permitted).0
+  itself e permitted = stands-same rules.doctype e (and_parts (is_among (elements_of rules.doctype) e) (is_listed rules.elements rules.denied_elements (same_element e)) permitted).0
 
   -- a tag that is no picture's, or has a source that may be embedded, is admitted
   good-admitted : (e : Element) (attrs : List Attribute) → is_good_tag (has_source rules rule) (element_name e) attrs ≡ true → is_admitted rules rule e attrs ≡ true

@@ -6,7 +6,7 @@ use Rattle.std.specs.Prelude.{IfOk}
 use Rattle.std.specs.declared.alloc.AllocError.{AllocError}
 use Rattle.std.specs.declared.alloc.Global.{Global}
 use Rattle.pur_laws.proofs.Texts.{chars_ascii, is_ascii}
-use Rattle.pur_tokens.specs.Texts.{text_of}
+use Rattle.pur_attrlist.specs.Texts.{text_of}
 
 -- a text that is made of a plain one
 pub made-plain : (r : Result (String Global) AllocError) (text : List ℕ) → list_all is_ascii text ≡ true → IfOk r (λ s. string_bytes s ≡ text) → IfOk r (λ s. text_of s ≡ text)

@@ -5,8 +5,8 @@ use Rattle.std.specs.Str.{bytes_eq}
 use Rattle.pur_names.specs.declared.elements.Element.{Element}
 use Rattle.pur_names.specs.declared.elements.Element.TheVariants.{Center, Dir, Div, Font, Menu, S, Span, Strike, U, Ul}
 use Rattle.pur_text.specs.Trimming.{trimmed}
-use Rattle.pur_tokens.specs.Attributes.{Attribute, value_of, without}
-use Rattle.pur_tokens.specs.Styles.{with_style}
+use Rattle.pur_attrlist.specs.Attributes.{Attribute, value_of, without}
+use Rattle.pur_attrlist.specs.Styles.{with_style}
 
 -- the element that stands in Strict for another
 abbrev pub strict_element : Element → Element

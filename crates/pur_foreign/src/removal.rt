@@ -1,11 +1,11 @@
 //! The tokens that stay.
 
-ghost use Rattle.std.specs.Prelude.{◌≡◌, ℕ, ◌∷◌, ◌++◌, List, [], map, IfOk, OnOk};
-ghost use Rattle.pur_tokens.specs.Texts.{text_of};
+ghost use Rattle.std.specs.Prelude.{◌≡◌, ℕ, ◌∷◌, ◌++◌, List, [], map, Some, IfOk, OnOk};
+ghost use Rattle.pur_attrlist.specs.Texts.{text_of};
 ghost use Rattle.pur_tokens.specs.Tokens.{PlainToken, plain_token};
-ghost use Rattle.pur_tokens.specs.Attributes.{Attribute};
+ghost use Rattle.pur_attrlist.specs.Attributes.{Attribute};
 ghost use Rattle.pur_names.specs.Elements.{element_name, element_named};
-ghost use Rattle.pur_tokens.specs.Joining.{tokens_given};
+ghost use Rattle.pur_tokens.specs.Shown.{plain_shown, shown_given};
 ghost use Rattle.pur_foreign.specs.Removal.{element_in, attributes_in, is_admitted, tag_image, end_image, image_of, without_foreign};
 ghost use Rattle.pur_uripolicy.specs.Admissible.{has_source};
 ghost use Rattle.pur_uripolicy.specs.HostRules.{PlainHostRule};
@@ -13,10 +13,11 @@ ghost use Rattle.pur_foreign.specs.Keeping.{tags_kept, ends_kept, kept_behind};
 ghost use Rattle.pur_settings.specs.Rules.{Rules};
 
 use crate::strict::{strict_attributes, strict_element};
+use pur_attrlist::AttrList;
 use pur_modules::Doctype;
 use pur_names::Element;
 use pur_settings::Settings;
-use pur_tokens::{AttrList, Joiner, Tag, Token};
+use pur_tokens::{Joiner, Shown, ShownTag, Tag, Token};
 use pur_uripolicy::{UriGate, UriTest, UriUse, read_uri};
 use std::alloc::{AllocError, Global};
 use std::marker::Model;
@@ -44,7 +45,7 @@ pub fn remove_foreign<F: UriTest>(
         put_token(alloc, settings, gate, &mut removal, token, tokens)?;
     }
     let last = removal.finish();
-    push_given(tokens, last)?;
+    push_given(alloc, tokens, last)?;
     Ok(())
 }
 
@@ -61,18 +62,54 @@ fn put_token<F: UriTest>(
         ≡ map plain_token tokens.old.items ++ kept_behind settings.now gate.now removal.old (plain_token token ∷ more)) }
 {
     let given = removal.put(alloc, settings, gate, token)?;
-    push_given(tokens, given)?;
+    push_given(alloc, tokens, given)?;
     Ok(())
 }
 
-// Puts a token, if there is one, behind the others.
-fn push_given(tokens: &mut Vec<Token>, given: Option<Token>) -> Result<(), AllocError>
-    ensures { OnOk result (map plain_token tokens.new.items ≡ map plain_token tokens.old.items ++ tokens_given given) }
+// Puts what is given, if something is, behind the others.
+fn push_given(
+    alloc: Global,
+    tokens: &mut Vec<Token>,
+    given: Option<Shown>,
+) -> Result<(), AllocError>
+    ensures { OnOk result (map plain_token tokens.new.items ≡ map plain_token tokens.old.items ++ shown_given given) }
 {
-    if let Some(token) = given {
+    if let Some(shown) = given {
+        let token = named(alloc, shown)?;
         tokens.push(token)?;
     }
     Ok(())
+}
+
+// The token that says the same, by the name of its element.
+fn named(alloc: Global, shown: Shown) -> Result<Token, AllocError>
+    ensures { IfOk result (λ token. plain_token token ≡ plain_shown shown) }
+{
+    match shown {
+        Shown::Text(text) => Ok(Token::Text(text)),
+        Shown::Start(tag) => Ok(Token::Start(named_tag(alloc, tag)?)),
+        Shown::End(element) => Ok(Token::End(name_of(alloc, element)?)),
+        Shown::Empty(tag) => Ok(Token::Empty(named_tag(alloc, tag)?)),
+    }
+}
+
+// The tag by the name of its element.
+fn named_tag(alloc: Global, tag: ShownTag) -> Result<Tag, AllocError>
+    ensures name { IfOk result (λ named. text_of named.name ≡ element_name tag.element) }
+    ensures attrs { IfOk result (λ named. named.attrs ≡ tag.attrs) }
+{
+    let name = name_of(alloc, tag.element)?;
+    Ok(Tag {
+        name,
+        attrs: tag.attrs,
+    })
+}
+
+// The name of an element, as a text.
+fn name_of(alloc: Global, element: Element) -> Result<String, AllocError>
+    ensures { IfOk result (λ name. text_of name ≡ element_name element) }
+{
+    String::from_str(alloc, element.name())
 }
 
 /// Removes foreign elements from tokens that come one at a time, as `remove_foreign` does from a list.
@@ -80,7 +117,7 @@ fn push_given(tokens: &mut Vec<Token>, given: Option<Token>) -> Result<(), Alloc
 /// Holds the last token that stays back, since a text joins one that comes behind it. Contracts see that token.
 #[derive(Drop)]
 pub struct Removal {
-    joiner: Joiner,
+    joiner: Joiner<Shown>,
 }
 
 impl Model for Removal {
@@ -111,14 +148,14 @@ impl Removal {
         settings: &Settings,
         gate: &UriGate<F>,
         token: Token,
-    ) -> Result<Option<Token>, AllocError>
+    ) -> Result<Option<Shown>, AllocError>
         ensures { IfOk result (λ given. (more : List PlainToken) →
-            kept_behind settings.now gate.now self.old (plain_token token ∷ more) ≡ tokens_given given ++ kept_behind settings.now gate.now self.new more) }
+            kept_behind settings.now gate.now self.old (plain_token token ∷ more) ≡ shown_given given ++ kept_behind settings.now gate.now self.new more) }
     {
         let kept = kept_token(alloc, settings, gate, token)?;
         match kept {
-            Some(token) => {
-                let given = self.joiner.put(token)?;
+            Some(shown) => {
+                let given = self.joiner.put(shown)?;
                 Ok(given)
             }
             None => Ok(None),
@@ -126,8 +163,8 @@ impl Removal {
     }
 
     /// Gives the last token that stays, behind all others.
-    pub fn finish(self) -> Option<Token>
-        ensures { (rules : Rules) (rule : PlainHostRule) → kept_behind rules rule self [] ≡ tokens_given result }
+    pub fn finish(self) -> Option<Shown>
+        ensures { (rules : Rules) (rule : PlainHostRule) → kept_behind rules rule self [] ≡ shown_given result }
     {
         let mut joiner = self.joiner;
         joiner.take()
@@ -140,21 +177,21 @@ fn kept_token<F: UriTest>(
     settings: &Settings,
     gate: &UriGate<F>,
     token: Token,
-) -> Result<Option<Token>, AllocError>
-    ensures { IfOk result (λ kept. tokens_given kept ≡ image_of settings.now gate.now (plain_token token)) }
+) -> Result<Option<Shown>, AllocError>
+    ensures { IfOk result (λ kept. shown_given kept ≡ image_of settings.now gate.now (plain_token token)) }
 {
     match token {
-        Token::Text(text) => Ok(Some(Token::Text(text))),
+        Token::Text(text) => Ok(Some(Shown::Text(text))),
         Token::Start(tag) => match kept_tag(alloc, settings, gate, tag)? {
-            Some(tag) => Ok(Some(Token::Start(tag))),
+            Some(tag) => Ok(Some(Shown::Start(tag))),
             None => Ok(None),
         },
         Token::Empty(tag) => match kept_tag(alloc, settings, gate, tag)? {
-            Some(tag) => Ok(Some(Token::Empty(tag))),
+            Some(tag) => Ok(Some(Shown::Empty(tag))),
             None => Ok(None),
         },
-        Token::End(name) => match kept_end(alloc, settings, name)? {
-            Some(name) => Ok(Some(Token::End(name))),
+        Token::End(name) => match kept_end(settings, name) {
+            Some(element) => Ok(Some(Shown::End(element))),
             None => Ok(None),
         },
         Token::Hidden { .. } | Token::Comment(_) => Ok(None),
@@ -167,7 +204,7 @@ fn kept_tag<F: UriTest>(
     settings: &Settings,
     gate: &UriGate<F>,
     tag: Tag,
-) -> Result<Option<Tag>, AllocError>
+) -> Result<Option<ShownTag>, AllocError>
     ensures { IfOk result (λ kept. (make : List ℕ → List Attribute → PlainToken) →
         tags_kept make kept ≡ tag_image settings.now gate.now make (element_named (text_of tag.name)) tag.attrs) }
 {
@@ -186,8 +223,10 @@ fn kept_tag<F: UriTest>(
     if !admitted {
         return Ok(None);
     }
-    let name = name_of(alloc, name, kept)?;
-    Ok(Some(Tag { name, attrs }))
+    Ok(Some(ShownTag {
+        element: kept,
+        attrs,
+    }))
 }
 
 // Whether what an element with these attributes shows can be admitted.
@@ -225,29 +264,24 @@ fn has_source<F: UriTest>(
 }
 
 // What stays of an end tag.
-fn kept_end(alloc: Global, settings: &Settings, name: String) -> Result<Option<String>, AllocError>
-    ensures { IfOk result (λ kept. ends_kept kept ≡ end_image settings.now (element_named (text_of name))) }
+fn kept_end(settings: &Settings, name: String) -> Option<Element>
+    ensures { ends_kept result ≡ end_image settings.now (element_named (text_of name)) }
 {
-    let element = match Element::from_name(name.as_str()) {
-        Some(element) => element,
-        None => return Ok(None),
-    };
-    let kept = element_in(settings.doctype(), element);
-    if !settings.permits(kept) {
-        return Ok(None);
+    match Element::from_name(name.as_str()) {
+        Some(element) => permitted_in_place(settings, element),
+        None => None,
     }
-    let name = name_of(alloc, name, kept)?;
-    Ok(Some(name))
 }
 
-// The name of an element, as this text where it is that.
-fn name_of(alloc: Global, name: String, element: Element) -> Result<String, AllocError>
-    ensures { IfOk result (λ name. text_of name ≡ element_name element) }
+// The element that stands for another, if it is permitted.
+fn permitted_in_place(settings: &Settings, element: Element) -> Option<Element>
+    ensures { ends_kept result ≡ end_image settings.now (Some element) }
 {
-    if name.as_str() == element.name() {
-        return Ok(name);
+    let kept = element_in(settings.doctype(), element);
+    if !settings.permits(kept) {
+        return None;
     }
-    String::from_str(alloc, element.name())
+    Some(kept)
 }
 
 // The element that stands for another in a doctype.

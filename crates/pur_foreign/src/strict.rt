@@ -3,13 +3,13 @@
 ghost use Rattle.std.specs.Prelude.{◌≡◌, ◌++◌, IfOk, IfSome, OnOk, codes};
 ghost use Rattle.std.specs.Option.{option_map};
 ghost use Rattle.std.specs.Str.{chars};
-ghost use Rattle.pur_tokens.specs.Attributes.{value_of};
-ghost use Rattle.pur_tokens.specs.Texts.{text_of};
+ghost use Rattle.pur_attrlist.specs.Attributes.{value_of};
+ghost use Rattle.pur_attrlist.specs.Texts.{text_of};
 ghost use Rattle.pur_foreign.specs.Strict.{strict_element, strict_attributes, style_text, attributes_left, font_style, declaration, size_named, size_of};
 
+use pur_attrlist::{AttrList, put_style};
 use pur_names::Element;
 use pur_text::trim;
-use pur_tokens::{AttrList, put_style};
 use std::alloc::{AllocError, Global};
 
 // The element that stands in Strict for another.

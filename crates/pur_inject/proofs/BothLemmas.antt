@@ -1,10 +1,12 @@
 -- Links and paragraphs, one after the other.
 use Rattle.std.proofs.Common.{◌≡◌, Bool, true, false, List, ℕ, refl, sym, ap, ◌∙◌}
-use Rattle.std.specs.Prelude.{if◌then◌else◌}
+use Rattle.std.specs.Prelude.{if◌then◌else◌, ◌||◌}
+use Rattle.std.proofs.lemmas.Bool.{not-true, or_parts}
 use Rattle.pur_settings.specs.Rules.{Rules}
 use Rattle.pur_uripolicy.specs.HostRules.{PlainHostRule}
 use Rattle.pur_tree.specs.Nodes.{Nodes, is_joined, is_sound}
-use Rattle.pur_inject.specs.Laws.{names_alone, injected}
+use Rattle.pur_inject.specs.Injected.{injected, injects_nothing}
+use Rattle.pur_inject.specs.Laws.{names_alone, InjectsNothing}
 use Rattle.pur_inject.specs.Links.{linked, link_place_of, makes_links, may_be_linked, with_links}
 use Rattle.pur_inject.specs.Paragraphs.{in_paragraphs, makes_paragraphs, with_paragraphs}
 use Rattle.pur_inject.proofs.LinkKeepLemmas.{joined-with_links}
@@ -60,3 +62,9 @@ paragraphs-once rules n = go (makes_paragraphs rules) where
       ≡ (if b then in_paragraphs rules.doctype n else n)
   go true = in-once rules.doctype n
   go false = refl
+
+-- where the settings want neither
+pub nothing-injected : InjectsNothing
+nothing-injected rules rule n off =
+    let neither = or_parts rules.linkify rules.auto_paragraph (not-true (rules.linkify || rules.auto_paragraph) off) in
+    rw (neither.0, neither.1) refl

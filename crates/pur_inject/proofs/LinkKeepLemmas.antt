@@ -14,13 +14,13 @@ use Rattle.pur_modules.specs.declared.kinds.Doctype.{Doctype}
 use Rattle.pur_modules.specs.Contents.{is_excluded, is_excluded_in}
 use Rattle.pur_modules.specs.Expressions.{is_letter}
 use Rattle.pur_settings.specs.Rules.{Rules, permits_attribute, permits_element}
-use Rattle.pur_tokens.specs.Attributes.{Attribute}
+use Rattle.pur_attrlist.specs.Attributes.{Attribute}
 use Rattle.pur_tree.specs.Forests.{IsForest}
 use Rattle.pur_tree.specs.Nodes.{PlainElem, Nodes, no_nodes, text_first, elem_first, nodes_append, is_joined, starts_with_text}
 use Rattle.pur_tree.specs.Places.{Place, level_limit, fragment, rise}
-use Rattle.pur_tree.specs.Properties.{Property, Holds, levels, soundness, free, permitted, pictures, allowed}
+use Rattle.pur_tree.specs.Properties.{Property, Holds, levels, soundness, free, permitted, pictures, allowed, distinct}
 use Rattle.pur_tree.specs.Walks.{count_in_text}
-use Rattle.pur_tree.proofs.HoldsLemmas.{Holds-append, levels-test, test-levels, soundness-test, test-soundness, allowed-test, test-allowed}
+use Rattle.pur_tree.proofs.HoldsLemmas.{Holds-append, levels-test, test-levels, soundness-test, test-soundness, allowed-test, test-allowed, distinct-test, test-distinct}
 use Rattle.pur_tree.proofs.NodesLemmas.{joined-append}
 use Rattle.pur_tree.proofs.WalkLemmas.{count_in_text-append}
 use Rattle.pur_uripolicy.specs.HostRules.{PlainHostRule}
@@ -186,4 +186,6 @@ module _ (rules : Rules) (rule : PlainHostRule) (n : Nodes) where
     allowed = λ h. test-allowed (with_links rules rule n)
         (kept allowed allowed-text (λ w address on may all. (and_from _ _ all refl, all)) tt (allowed-test n h));
     pictures = λ test h. kept (pictures test) (quiet (pictures test) (λ w s. tt)) (λ w address on may h. (refl, tt)) tt h;
+    distinct = λ h. test-distinct (with_links rules rule n)
+        (kept distinct (quiet distinct (λ w s. tt)) (λ w address on may h. (refl, tt)) tt (distinct-test n h));
   }

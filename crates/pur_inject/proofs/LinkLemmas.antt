@@ -6,8 +6,8 @@ use Rattle.std.proofs.Math.ListN.{drop_of_length-le}
 use Rattle.std.proofs.lemmas.Bool.{and_parts, and_from, not-true, cond-true, cond-false}
 use Rattle.std.proofs.lemmas.List.Sums.{sum_by-cons}
 use Rattle.pur_laws.proofs.Lists.{all-take, all-drop}
-use Rattle.pur_tokens.specs.Texts.{times}
-use Rattle.pur_tokens.proofs.JoiningLaws.{times-append}
+use Rattle.pur_attrlist.specs.Texts.{times}
+use Rattle.pur_attrlist.proofs.TextLaws.{times-append}
 use Rattle.pur_tree.specs.Nodes.{Nodes, no_nodes, text_first}
 use Rattle.pur_tree.specs.Walks.{count_in_text}
 use Rattle.pur_inject.specs.Addresses.{is_address_character, is_address, is_end_mark, address_place, before_address, from_address, without_end_marks, end_marks_of}

@@ -12,10 +12,10 @@ use Rattle.pur_modules.specs.Contents.{is_excluded, is_excluded_in}
 use Rattle.pur_settings.specs.Rules.{Rules, permits_element}
 use Rattle.pur_tree.specs.Nodes.{PlainElem, bare, Nodes, no_nodes, text_first, elem_first, is_joined, level_in}
 use Rattle.pur_tree.specs.Places.{level_limit, fragment, inside}
-use Rattle.pur_tree.specs.Properties.{Property, Holds, levels, soundness, free, permitted, pictures, allowed}
+use Rattle.pur_tree.specs.Properties.{Property, Holds, levels, soundness, free, permitted, pictures, allowed, distinct}
 use Rattle.pur_tree.specs.Walks.{count_in_text}
-use Rattle.pur_tree.proofs.HoldsLemmas.{levels-test, test-levels, soundness-test, test-soundness, allowed-test, test-allowed}
-use Rattle.pur_tokens.specs.Texts.{times}
+use Rattle.pur_tree.proofs.HoldsLemmas.{levels-test, test-levels, soundness-test, test-soundness, allowed-test, test-allowed, distinct-test, test-distinct}
+use Rattle.pur_attrlist.specs.Texts.{times}
 use Rattle.pur_inject.specs.Laws.{Keeps}
 use Rattle.pur_inject.specs.Paragraphs.{are_blank, in_paragraphs, is_flow, is_line_feed, is_line_feed_sign, is_paragraph, lost_in_paragraphs, lost_in_run, makes_paragraphs, marked_run, stands_in_paragraphs, with_blank_lines, with_paragraphs, wrapped_run}
 use Rattle.pur_inject.specs.Runs.{front_run, later_runs, runs_of, with_runs}
@@ -101,6 +101,7 @@ module _ (rules : Rules) (n : Nodes) where
     permitted = permitted-kept;
     allowed = λ h. test-allowed (with_paragraphs rules n) (kept allowed allowed-text tt refl (λ n is h. (refl, h)) rules n (allowed-test n h));
     pictures = λ test h. kept (pictures test) (quiet (pictures test) (λ w s. tt)) tt tt (λ n is h. (refl, h)) rules n h;
+    distinct = λ h. test-distinct (with_paragraphs rules n) (kept distinct (quiet distinct (λ w s. tt)) tt tt (λ n is h. (refl, h)) rules n (distinct-test n h));
   }
 
 -- ---- counts

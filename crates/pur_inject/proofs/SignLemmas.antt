@@ -11,7 +11,7 @@ use Rattle.pur_tree.specs.Nodes.{PlainElem, Nodes, no_nodes, text_first, elem_fi
 use Rattle.pur_tree.specs.Properties.{Property, Holds, soundness, allowed}
 use Rattle.pur_tree.specs.Walks.{text_joined, count_in_text}
 use Rattle.pur_tree.proofs.WalkLemmas.{text_joined-append, count_in_text-text_joined}
-use Rattle.pur_tokens.specs.Texts.{times}
+use Rattle.pur_attrlist.specs.Texts.{times}
 use Rattle.pur_inject.specs.Signs.{Sign, letter, element, blank_line, letters, signs_of, sign_before, signs_before, nodes_from, two_line_feeds}
 use Rattle.pur_inject.proofs.RunLemmas.{Each, each-append}
 

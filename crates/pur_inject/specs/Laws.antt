@@ -1,19 +1,21 @@
 -- What is said of links and of paragraphs.
 use Rattle.std.specs.Prelude.{ℕ, ◌+◌, ◌≡◌, Bool, true, false, List, []}
 use Rattle.pur_settings.specs.Rules.{Rules, permits_element}
-use Rattle.pur_tokens.specs.Attributes.{Attribute}
+use Rattle.pur_attrlist.specs.Attributes.{Attribute}
 use Rattle.pur_tree.specs.Forests.{IsForest}
 use Rattle.pur_tree.specs.Nodes.{PlainElem, plain_elem, Nodes, no_nodes, elem_first, is_joined, is_sound}
 use Rattle.pur_tree.specs.Properties.{Property, Holds, free, permitted, pictures}
-use Rattle.pur_tree.specs.Spelling.{has_allowed_characters}
+use Rattle.pur_tree.specs.Spelling.{has_allowed_characters, has_distinct_names}
 use Rattle.pur_tree.specs.Walks.{walk, count_in_text}
 use Rattle.pur_tree.specs.Words.{IsWord, HaveWords}
 use Rattle.pur_uripolicy.specs.HostRules.{PlainHostRule}
+use Rattle.pur_inject.specs.Injected.{injected, injects_nothing}
 use Rattle.pur_inject.specs.Links.{link_to, makes_links, may_be_linked, with_links}
 use Rattle.pur_inject.specs.Paragraphs.{is_line_feed, lost_in_paragraphs, with_paragraphs}
 
 -- what nodes have that others are made of: what every forest keeps; no neighbouring texts; no element in one that excludes
--- it; permitted elements alone; allowed characters alone; pictures with the attributes that they had
+-- it; permitted elements alone; allowed characters alone; pictures with the attributes that they had; no name twice among the
+-- attributes of an element
 pub record Keeps (rules : Rules) (nodes made : Nodes) : Type 0 where
   pub forest : IsForest nodes → IsForest made
   pub joined : is_joined nodes ≡ true → is_joined made ≡ true
@@ -21,6 +23,7 @@ pub record Keeps (rules : Rules) (nodes made : Nodes) : Type 0 where
   pub permitted : Holds (permitted (permits_element rules)) tt nodes → Holds (permitted (permits_element rules)) tt made
   pub allowed : has_allowed_characters nodes ≡ true → has_allowed_characters made ≡ true
   pub pictures : (test : List Attribute → Bool) → Holds (pictures test) tt nodes → Holds (pictures test) tt made
+  pub distinct : has_distinct_names nodes ≡ true → has_distinct_names made ≡ true
 
 -- a word stays one, and so do the children of each element
 pub record KeepsWords (rules : Rules) (nodes made : Nodes) : Type 0 where
@@ -82,9 +85,9 @@ abbrev pub ParagraphsBringNoLinks : Type 0
 ParagraphsBringNoLinks = (rules : Rules) (rule : PlainHostRule) (nodes : Nodes) → is_joined nodes ≡ true
     → with_links rules rule (with_paragraphs rules (with_links rules rule nodes)) ≡ with_paragraphs rules (with_links rules rule nodes)
 
--- nodes with links, and then with paragraphs
-abbrev pub injected : Rules → PlainHostRule → Nodes → Nodes
-injected rules rule nodes = with_paragraphs rules (with_links rules rule nodes)
+-- nodes stay as they are where the settings want neither links nor paragraphs
+abbrev pub InjectsNothing : Type 0
+InjectsNothing = (rules : Rules) (rule : PlainHostRule) (nodes : Nodes) → injects_nothing rules ≡ true → injected rules rule nodes ≡ nodes
 
 -- what was injected, also with other attributes, stays as it is
 abbrev pub InjectsOnce : Type 0

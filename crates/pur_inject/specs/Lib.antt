@@ -4,5 +4,6 @@ pub mod Addresses
 pub mod Links
 pub mod Paragraphs
 pub mod Rows
+pub mod Injected
 pub mod Laws
 pub mod Private

@@ -1,6 +1,6 @@
 //! Laws of links and of paragraphs, each the contract of a function that does nothing.
 
-ghost use Rattle.pur_inject.specs.Laws.{InjectsOnce, Keeps, KeepsWords, LinksAreTested, LinksKeepCounts, LinksOnce, LosesLineFeedsAlone, ParagraphsBringNoLinks, ParagraphsKeepCounts, ParagraphsOnce};
+ghost use Rattle.pur_inject.specs.Laws.{InjectsNothing, InjectsOnce, Keeps, KeepsWords, LinksAreTested, LinksKeepCounts, LinksOnce, LosesLineFeedsAlone, ParagraphsBringNoLinks, ParagraphsKeepCounts, ParagraphsOnce};
 ghost use Rattle.pur_inject.specs.Links.{with_links};
 ghost use Rattle.pur_inject.specs.Paragraphs.{with_paragraphs};
 ghost use Rattle.pur_inject.specs.Rows.{MakesALink, TakesMarksOff, NeedsABoundary, LooksOnceIntoARun, LeavesOthers, MakesParagraphs, MakesOneParagraph, KeepsBlocksApart};
@@ -9,7 +9,7 @@ ghost use Rattle.pur_tree.specs.Nodes.{Nodes};
 ghost use Rattle.pur_uripolicy.specs.HostRules.{PlainHostRule};
 
 /// Links leave what nodes have: a forest stays one, no texts become neighbours, no element comes into one that excludes it, and
-/// none that isn't permitted; characters stay allowed, and pictures keep their attributes.
+/// none that isn't permitted; characters stay allowed, pictures keep their attributes, and no name comes twice into an element.
 pub fn links_keep()
     ensures { (rules : Rules) (rule : PlainHostRule) (nodes : Nodes) → Keeps rules nodes (with_links rules rule nodes) }
 {}
@@ -62,6 +62,11 @@ pub fn paragraphs_once()
 /// No link is to be made in the paragraphs of nodes with links.
 pub fn paragraphs_bring_no_links()
     ensures { ParagraphsBringNoLinks }
+{}
+
+/// Nodes stay as they are where the settings want neither links nor paragraphs.
+pub fn injects_nothing()
+    ensures { InjectsNothing }
 {}
 
 /// What has links and paragraphs stays as it is, whatever its attributes.

@@ -13,9 +13,10 @@ mod places;
 mod runs;
 
 pub use laws::{
-    injects_once, links_are_tested, links_keep, links_keep_counts, links_keep_words, links_once,
-    loses_line_feeds_alone, paragraphs_bring_no_links, paragraphs_keep, paragraphs_keep_counts,
-    paragraphs_keep_words, paragraphs_once, worked_examples,
+    injects_nothing, injects_once, links_are_tested, links_keep, links_keep_counts,
+    links_keep_words, links_once, loses_line_feeds_alone, paragraphs_bring_no_links,
+    paragraphs_keep, paragraphs_keep_counts, paragraphs_keep_words, paragraphs_once,
+    worked_examples,
 };
 pub use linking::linkify;
 pub use paragraphs::auto_paragraph;

@@ -14,11 +14,11 @@ ghost use Rattle.pur_inject.specs.Private.Standing.{going_on, piece_before, stan
 
 use crate::growing::Growing;
 use crate::runs::{Sort, cut_run};
+use pur_attrlist::AttrList;
 use pur_modules::{Content, Doctype, is_edit, is_inline};
 use pur_names::Element;
 use pur_settings::Settings;
 use pur_text::is_space;
-use pur_tokens::AttrList;
 use pur_tree::{Elem, Forest, LEVEL_LIMIT, Node, is_table, level_rise};
 use std::alloc::{AllocError, Global};
 use std::mem;

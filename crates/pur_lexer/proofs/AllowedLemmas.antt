@@ -11,7 +11,7 @@ use Rattle.pur_laws.proofs.Lists.{all-append, all-drop, all-filter, all-weaker}
 use Rattle.pur_text.specs.Characters.{is_allowed}
 use Rattle.pur_entities.specs.References.{decoded}
 use Rattle.pur_entities.proofs.ReferenceLemmas.{decoded-allowed}
-use Rattle.pur_tokens.specs.Attributes.{Attribute, is_same_text, without, first_of_names}
+use Rattle.pur_attrlist.specs.Attributes.{Attribute, is_same_text, without, first_of_names}
 use Rattle.pur_tokens.specs.Characters.{attribute_has_only, token_has_only}
 use Rattle.pur_tokens.specs.Joining.{is_some_token}
 use Rattle.pur_tokens.proofs.JoiningLaws.{only-joined}

@@ -9,7 +9,7 @@ use Rattle.std.proofs.lemmas.Bool.{or_cases}
 use Rattle.std.proofs.lemmas.Slice.Eq.{bytes_eq-Decides, slice_eq-Decides}
 use Rattle.std.proofs.lemmas.Bool.Decides.{Decides-eqb}
 use Rattle.std.specs.Char.{to_ascii_lowercase}
-use Rattle.pur_tokens.specs.Attributes.{is_same_text}
+use Rattle.pur_attrlist.specs.Attributes.{is_same_text}
 use Rattle.pur_laws.proofs.Truth.{true_together}
 use Rattle.pur_lexer.proofs.TagLemmas.{not_behind, lowered-chars}
 use Rattle.std.proofs.lemmas.Str.{chars-nil, encodes-chars, encodes-IsAscii}

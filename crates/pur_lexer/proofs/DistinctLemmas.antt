@@ -5,11 +5,11 @@ use Rattle.std.specs.List.{list_all}
 use Rattle.std.proofs.lemmas.Bool.{and_from}
 use Rattle.pur_laws.proofs.Truth.{either}
 use Rattle.pur_laws.proofs.Lists.{all-append, all-filter}
-use Rattle.pur_tokens.specs.Attributes.{is_distinct}
+use Rattle.pur_attrlist.specs.Attributes.{is_distinct}
 use Rattle.pur_tokens.specs.Distinct.{shows_distinct}
 use Rattle.pur_tokens.specs.Joining.{is_some_token}
 use Rattle.pur_tokens.specs.Tokens.{PlainToken, text_token, start_token, empty_token, hidden_token, comment_token}
-use Rattle.pur_tokens.proofs.DistinctLaws.{is_distinct-first}
+use Rattle.pur_attrlist.proofs.DistinctLaws.{is_distinct-first}
 use Rattle.pur_tokens.proofs.JoiningLaws.{all-joined}
 use Rattle.pur_lexer.specs.Places.{begins_with, begins_with_mark, is_character, run_to, rest_from}
 use Rattle.pur_lexer.specs.Tags.{lowered, is_letter, ends_tag_name, TagEnd, tag_end_behind, with_first_of_names, tag_end}

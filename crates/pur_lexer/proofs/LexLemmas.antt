@@ -9,7 +9,7 @@ use Rattle.pur_laws.proofs.Texts.{some_chars, no_chars}
 use Rattle.pur_tokens.specs.Joining.{joined, held_before, tokens_given, is_some_token}
 use Rattle.pur_tokens.specs.Tokens.{PlainToken, plain_token, text_token, start_token, empty_token, comment_token}
 use Rattle.pur_tokens.specs.declared.tokens.Token.{Token}
-use Rattle.pur_tokens.specs.Attributes.{Attribute}
+use Rattle.pur_attrlist.specs.Attributes.{Attribute}
 use Rattle.pur_lexer.specs.Places.{begins_with, begins_with_mark, is_character, run_to, rest_from}
 use Rattle.pur_lexer.specs.Tags.{Step, end_step, attribute_step, TagEnd, with_attributes, end_by_step, step_of, tag_end_behind, tag_end, with_first_of_names, lowered, ends_tag_name, is_letter}
 use Rattle.pur_lexer.specs.Constructs.{Construct, gives_one, closed_by, through_mark, end_tag_of, is_hiding, is_end_mark, hidden_of, tag_by_end, tag_of, tag_or_text, markup_of, plain_text, construct_of}

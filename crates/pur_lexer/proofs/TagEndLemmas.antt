@@ -8,8 +8,8 @@ use Rattle.std.proofs.lemmas.List.Prefix.{end_rest}
 use Rattle.pur_laws.proofs.Texts.{is_ascii, same_chars}
 use Rattle.std.proofs.lemmas.List.{length-drop}
 use Rattle.std.proofs.lemmas.Str.{chars-nil, encodes-chars}
-use Rattle.pur_tokens.specs.Attributes.{Attribute, with_new, first_of_names}
-use Rattle.pur_tokens.proofs.AttributeLaws.{first_of_names-push}
+use Rattle.pur_attrlist.specs.Attributes.{Attribute, with_new, first_of_names}
+use Rattle.pur_attrlist.proofs.AttributeLaws.{first_of_names-push}
 use Rattle.pur_lexer.specs.Places.{begins_with, is_character, run_to, rest_from}
 use Rattle.pur_lexer.specs.Tags.{ends_gap, ends_space, ends_attribute_name, ends_bare_value, lowered, raw_value, quoted_value, bare_value, with_raw_value, attribute_behind, named_attribute, attribute_at, Step, end_step, attribute_step, ends_with_slash, step_behind, step_of, TagEnd, with_attributes, end_by_step, tag_end_behind, with_first_of_names, tag_end}
 use Rattle.pur_lexer.specs.Private.Readings.{with_all_new, tag_end_after}

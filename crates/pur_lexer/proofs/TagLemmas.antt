@@ -9,7 +9,7 @@ use Rattle.std.proofs.lemmas.Bool.Decides.{nat_tests}
 use Rattle.std.proofs.lemmas.List.{map-append}
 use Rattle.std.proofs.lemmas.Str.{chars-encodes, chars-nil, encodes-chars, encode_ascii}
 use Rattle.std.proofs.lemmas.Str.Ascii.{lowercase_ascii}
-use Rattle.pur_tokens.specs.Attributes.{Attribute, with_new}
+use Rattle.pur_attrlist.specs.Attributes.{Attribute, with_new}
 use Rattle.pur_lexer.specs.Places.{begins_with, is_character, run_to, rest_from}
 use Rattle.pur_lexer.specs.Tags.{ends_space, ends_attribute_name, with_raw_value, lowered, raw_value, quoted_value, bare_value, attribute_behind, named_attribute, attribute_at}
 use Rattle.pur_lexer.specs.Private.Readings.{with_all_new}

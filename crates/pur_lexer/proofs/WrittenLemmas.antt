@@ -11,8 +11,8 @@ use Rattle.pur_laws.proofs.Lists.{all-weaker}
 use Rattle.pur_laws.proofs.Truth.{and_true}
 use Rattle.pur_text.specs.Characters.{is_space}
 use Rattle.pur_entities.specs.References.{decoded, decoded_behind}
-use Rattle.pur_tokens.specs.Attributes.{Attribute, is_distinct, without, first_of_names}
-use Rattle.pur_tokens.proofs.AttributeLaws.{is_distinct-names, first_is_new, rest_is_distinct, without-absent}
+use Rattle.pur_attrlist.specs.Attributes.{Attribute, is_distinct, without, first_of_names}
+use Rattle.pur_attrlist.proofs.AttributeLaws.{is_distinct-names, first_is_new, rest_is_distinct, without-absent}
 use Rattle.pur_tokens.specs.Joining.{joined, is_text, is_some_token, begins_with_text, has_no_neighbours}
 use Rattle.pur_tokens.proofs.JoiningLaws.{joined-same}
 use Rattle.pur_tokens.specs.Tokens.{PlainToken, text_token, start_token, end_token, empty_token, hidden_token, comment_token}

@@ -2,7 +2,7 @@
 use Rattle.std.specs.Prelude.{ℕ, ◌==◌, Bool, false, ◌&&◌, ◌||◌, if◌then◌else◌, List, [], ◌∷◌, length, drop, Option, None, Some, codes}
 use Rattle.std.specs.Char.{to_ascii_lowercase}
 use Rattle.pur_entities.specs.References.{decoded}
-use Rattle.pur_tokens.specs.Attributes.{is_same_text}
+use Rattle.pur_attrlist.specs.Attributes.{is_same_text}
 use Rattle.pur_tokens.specs.Tokens.{PlainToken, text_token, start_token, end_token, empty_token, hidden_token, comment_token}
 use Rattle.pur_lexer.specs.Places.{begins_with, begins_with_mark, is_character, run_to, rest_from}
 use Rattle.pur_lexer.specs.Tags.{lowered, is_letter, ends_tag_name, TagEnd, tag_end}

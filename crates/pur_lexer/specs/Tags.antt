@@ -3,7 +3,7 @@ use Rattle.std.specs.Prelude.{ℕ, zero, suc, ◌-◌, ◌==◌, Bool, not, ◌|
 use Rattle.std.specs.Char.{to_ascii_lowercase}
 use Rattle.pur_text.specs.Characters.{is_between, is_space}
 use Rattle.pur_entities.specs.References.{decoded}
-use Rattle.pur_tokens.specs.Attributes.{Attribute, first_of_names}
+use Rattle.pur_attrlist.specs.Attributes.{Attribute, first_of_names}
 use Rattle.pur_lexer.specs.Places.{begins_with, is_character, run_to, rest_from}
 
 -- a text with each of the letters A to Z in lower case

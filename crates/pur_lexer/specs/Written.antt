@@ -3,7 +3,7 @@ use Rattle.std.specs.Prelude.{ℕ, Bool, false, not, ◌&&◌, ◌||◌, List, [
 use Rattle.std.specs.List.{list_all}
 use Rattle.pur_text.specs.Characters.{is_between}
 use Rattle.pur_entities.specs.References.{decoded}
-use Rattle.pur_tokens.specs.Attributes.{Attribute, is_distinct}
+use Rattle.pur_attrlist.specs.Attributes.{Attribute, is_distinct}
 use Rattle.pur_tokens.specs.Tokens.{PlainToken, text_token, start_token, end_token, empty_token, hidden_token, comment_token}
 use Rattle.pur_lexer.specs.Places.{begins_with, is_character}
 use Rattle.pur_lexer.specs.Tags.{is_letter, ends_tag_name, ends_attribute_name}

@@ -2,14 +2,14 @@
 ghost use Rattle.std.specs.Prelude.{◌≡◌, ◌-◌, ◌<◌, ◌≤◌, length, IfOk, IfSome, OnOk};
 ghost use Rattle.std.specs.Option.{option_map};
 ghost use Rattle.std.specs.Str.{chars, IsUtf8};
-ghost use Rattle.pur_tokens.specs.Texts.{text_of};
+ghost use Rattle.pur_attrlist.specs.Texts.{text_of};
 ghost use Rattle.pur_lexer.specs.Tags.{quoted_value, raw_value, attribute_behind, attribute_at, tag_end};
 ghost use Rattle.pur_lexer.specs.Private.Readings.{with_all_new, tag_end_with};
 
 use crate::places::{Stop, behind_first, cut_at, cut_at_character};
+use pur_attrlist::AttrList;
 use pur_entities::decode;
 use pur_text::lower_ascii;
-use pur_tokens::AttrList;
 use std::alloc::{AllocError, Global};
 
 /// The attributes of a tag, whether it is an empty tag, and the text behind it, from the text behind its name; None where the text

@@ -44,7 +44,7 @@ fn read_all(lexer: &mut Lexer, tokens: &mut Vec<Token>) -> Result<(), AllocError
 #[derive(Drop)]
 pub struct Lexer<'a> {
     alloc: Global,
-    joiner: Joiner,
+    joiner: Joiner<Token>,
     rest: &'a str,
 }
 
@@ -107,7 +107,7 @@ fn cut_construct(alloc: Global, text: &str) -> Result<(Option<Token>, &str), All
 }
 
 // Puts a token, if there is one and it is no empty text, and gives the next that is known.
-fn put_some(joiner: &mut Joiner, token: Option<Token>) -> Result<Option<Token>, AllocError>
+fn put_some(joiner: &mut Joiner<Token>, token: Option<Token>) -> Result<Option<Token>, AllocError>
     ensures given { IfOk result (λ given. (more : List PlainToken) →
         held_before joiner.old (joined (filter is_some_token (tokens_given token ++ more)))
         ≡ tokens_given given ++ held_before joiner.new (joined (filter is_some_token more))) }

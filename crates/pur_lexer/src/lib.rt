@@ -1,5 +1,5 @@
 //! Cuts a text into its tokens: texts with their references read, tags with their attributes, comments, and what `script`
-//! and `style` hide.
+//! and `style` hide. The rows are in pur_token_rows.
 #![tactic(auto)]
 
 mod attributes;

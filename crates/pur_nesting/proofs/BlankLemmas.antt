@@ -9,7 +9,7 @@ use Rattle.pur_modules.specs.declared.kinds.Child.TheVariants.{Text}
 use Rattle.pur_modules.specs.declared.kinds.Content.{Content}
 use Rattle.pur_modules.specs.declared.kinds.Doctype.{Doctype}
 use Rattle.pur_modules.specs.Expressions.{is_letter}
-use Rattle.pur_tokens.specs.Texts.{times}
+use Rattle.pur_attrlist.specs.Texts.{times}
 use Rattle.pur_tree.specs.Nodes.{Nodes, no_nodes, text_first, elem_first}
 use Rattle.pur_tree.specs.Properties.{Holds, letters}
 use Rattle.pur_tree.specs.Walks.{count_in_text}

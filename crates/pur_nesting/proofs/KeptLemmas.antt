@@ -7,7 +7,7 @@ use Rattle.pur_names.specs.declared.elements.Element.{Element}
 use Rattle.pur_names.specs.declared.elements.Element.TheVariants.{Caption, P, Table, Tbody, Tfoot, Thead, Tr}
 use Rattle.pur_names.proofs.ElementLaws.{each_element}
 use Rattle.pur_modules.specs.Contents.{is_excluded, is_excluded_in}
-use Rattle.pur_tokens.specs.Attributes.{Attribute}
+use Rattle.pur_attrlist.specs.Attributes.{Attribute}
 use Rattle.pur_tree.specs.Nodes.{Nodes, no_nodes, text_first, elem_first}
 use Rattle.pur_tree.specs.Properties.{Holds, free, permitted, pictures, allowed, distinct}
 use Rattle.pur_nesting.specs.declared.permits.Permits.{Permits}

@@ -6,7 +6,7 @@ use Rattle.pur_names.specs.declared.elements.Element.TheVariants.{P, Tbody}
 use Rattle.pur_modules.specs.declared.kinds.Content.{Content}
 use Rattle.pur_modules.specs.declared.kinds.Doctype.{Doctype}
 use Rattle.pur_models.specs.Laws.{takes_any_number}
-use Rattle.pur_tokens.specs.Attributes.{Attribute}
+use Rattle.pur_attrlist.specs.Attributes.{Attribute}
 use Rattle.pur_tree.specs.Forests.{IsForest}
 use Rattle.pur_tree.specs.Nodes.{Nodes, is_joined}
 use Rattle.pur_tree.specs.Properties.{Holds, letters, free, permitted, pictures}

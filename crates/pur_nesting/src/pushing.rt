@@ -4,8 +4,8 @@ ghost use Rattle.std.specs.Prelude.{◌≡◌, OnOk, IfOk};
 ghost use Rattle.pur_tree.specs.Image.{nodes_of};
 ghost use Rattle.pur_tree.specs.Nodes.{plain_elem, bare, Nodes, no_nodes, elem_first, nodes_append, has_no_nodes};
 
+use pur_attrlist::AttrList;
 use pur_names::Element;
-use pur_tokens::AttrList;
 use pur_tree::{Elem, Node, push_elem};
 use std::alloc::{AllocError, Global};
 

@@ -16,9 +16,9 @@ use Rattle.std.proofs.lemmas.Str.{chars-append, encodes-append, encodes-chars}
 use Rattle.std.proofs.Math.Seq.{take-append_seam}
 use Rattle.pur_laws.proofs.Lists.{any-same}
 use Rattle.pur_laws.proofs.Truth.{true_together}
-use Rattle.pur_tokens.specs.Attributes.{is_same_text}
-use Rattle.pur_tokens.specs.Texts.{text_of}
-use Rattle.pur_tokens.proofs.TextLaws.{same_text, is_same_text-refl, is_same_text-sym, bytes_eq-stored}
+use Rattle.pur_attrlist.specs.Attributes.{is_same_text}
+use Rattle.pur_attrlist.specs.Texts.{text_of}
+use Rattle.pur_attrlist.proofs.TextLaws.{same_text, is_same_text-refl, is_same_text-sym, bytes_eq-stored}
 use Rattle.pur_validity.specs.Attributes.{has_prefix}
 use Rattle.pur_reader.specs.Private.Judging.{seen_in, seen_with}
 

@@ -3,7 +3,7 @@ use Rattle.std.proofs.Common.{◌≡◌, ℕ, Bool, true, false, List, [], ◌�
 use Rattle.std.specs.Prelude.{◌&&◌, not}
 use Rattle.pur_text.specs.Characters.{is_blank}
 use Rattle.pur_modules.specs.declared.kinds.Child.TheVariants.{Text}
-use Rattle.pur_tokens.specs.Attributes.{Attribute, value_of}
+use Rattle.pur_attrlist.specs.Attributes.{Attribute, value_of}
 use Rattle.pur_tree.specs.Nodes.{PlainElem, Nodes, text_first, elem_first}
 use Rattle.pur_tree.specs.Words.{word_of}
 use Rattle.std.proofs.Common.{codes}

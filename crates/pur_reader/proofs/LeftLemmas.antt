@@ -13,8 +13,8 @@ use Rattle.pur_names.proofs.AttrLaws.{each_attr}
 use Rattle.pur_modules.specs.Contents.{is_empty_element}
 use Rattle.pur_text.specs.Characters.{is_allowed}
 use Rattle.pur_text.specs.Escapes.{escaped}
-use Rattle.pur_tokens.specs.Attributes.{Attribute, is_distinct}
-use Rattle.pur_tokens.proofs.AttributeLaws.{both_false}
+use Rattle.pur_attrlist.specs.Attributes.{Attribute, is_distinct}
+use Rattle.pur_attrlist.proofs.AttributeLaws.{both_false}
 use Rattle.pur_tree.specs.Nodes.{PlainElem, plain_elem, Nodes, starts_with_text, level_in}
 use Rattle.pur_tree.specs.Places.{Place, fragment, inside, inside_all, LevelFits}
 use Rattle.pur_tree.specs.Spelling.{escaped_value, attribute_text, attributes_text, is_attr_name, is_spellable_attribute, are_spellable, start_tag_of, end_tag_of, empty_tag_of, Spells, spells_nothing, spells_text, spells_empty, spells_element}

@@ -16,7 +16,7 @@ use Rattle.pur_laws.proofs.Tests.{same_number}
 use Rattle.pur_laws.proofs.Texts.{chars_push}
 use Rattle.pur_text.specs.Characters.{is_allowed}
 use Rattle.pur_text.specs.Texts.{text_of}
-use Rattle.pur_tokens.proofs.AttributeLaws.{both_false}
+use Rattle.pur_attrlist.proofs.AttributeLaws.{both_false}
 use Rattle.pur_tree.proofs.CutLemmas.{head_same, tail_same}
 use Rattle.pur_reader.specs.Private.Escaping.{escape_where, written_where, is_plain, IsWritten}
 

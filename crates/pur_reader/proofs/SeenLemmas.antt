@@ -3,7 +3,7 @@ use Rattle.std.proofs.Common.{◌≡◌, ℕ, Bool, true, false, List, [], ◌�
 use Rattle.std.specs.Prelude.{◌&&◌, ◌||◌, not}
 use Rattle.std.specs.List.{list_all, list_any}
 use Rattle.std.proofs.lemmas.Bool.{and_from}
-use Rattle.pur_tokens.specs.Attributes.{is_same_text}
+use Rattle.pur_attrlist.specs.Attributes.{is_same_text}
 use Rattle.pur_tree.specs.Nodes.{PlainElem, Nodes, elem_first}
 use Rattle.pur_validity.specs.Attributes.{ids_of, ids_in, has_prefix, are_different}
 use Rattle.pur_reader.specs.Private.Judging.{Seen, seen_with, seen_behind, ids_right}

@@ -13,8 +13,8 @@ use Rattle.pur_names.specs.Attributes.{attr_name, all_attrs}
 use Rattle.pur_names.proofs.ElementLaws.{each_element}
 use Rattle.pur_names.proofs.AttrLaws.{each_attr}
 use Rattle.pur_text.specs.Characters.{is_allowed}
-use Rattle.pur_tokens.specs.Attributes.{Attribute, is_distinct, has_name, with_new, is_same_text}
-use Rattle.pur_tokens.proofs.AttributeLaws.{both_false, has_name-append, is_distinct-push, rest_is_distinct, first_is_new}
+use Rattle.pur_attrlist.specs.Attributes.{Attribute, is_distinct, has_name, with_new, is_same_text}
+use Rattle.pur_attrlist.proofs.AttributeLaws.{both_false, has_name-append, is_distinct-push, rest_is_distinct, first_is_new}
 use Rattle.pur_tree.specs.Nodes.{PlainElem}
 use Rattle.pur_tree.specs.Spelling.{escaped_value, attribute_text, attributes_text, is_attr_name, is_spellable_attribute, are_spellable}
 use Rattle.pur_tree.proofs.CutLemmas.{is_stop, run_cut, tail_same}

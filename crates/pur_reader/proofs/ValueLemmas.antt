@@ -9,7 +9,7 @@ use Rattle.pur_names.specs.Attributes.{attr_name, attr_named}
 use Rattle.pur_names.specs.declared.attributes.Attr.{Attr}
 use Rattle.pur_names.specs.declared.elements.Element.{Element}
 use Rattle.pur_settings.specs.Rules.{Rules, permits_attribute}
-use Rattle.pur_tokens.specs.Attributes.{Attribute, is_same_text, has_name, value_of, names_of, values_of}
+use Rattle.pur_attrlist.specs.Attributes.{Attribute, is_same_text, has_name, value_of, names_of, values_of}
 use Rattle.pur_uripolicy.specs.HostRules.{PlainHostRule}
 use Rattle.pur_validity.specs.Attributes.{attribute_read, value_on, is_canonical, is_valid_attribute}
 use Rattle.pur_reader.proofs.CharacterLemmas.{attr_ascii}

@@ -15,7 +15,7 @@ use Rattle.pur_names.proofs.AttrLaws.{each_attr}
 use Rattle.pur_modules.specs.Contents.{is_empty_element}
 use Rattle.pur_text.specs.Characters.{is_allowed}
 use Rattle.pur_text.specs.Escapes.{escape, escaped}
-use Rattle.pur_tokens.specs.Attributes.{Attribute, is_distinct}
+use Rattle.pur_attrlist.specs.Attributes.{Attribute, is_distinct}
 use Rattle.pur_tree.specs.Building.{Building, written_of, opened_of}
 use Rattle.pur_tree.specs.Nodes.{PlainElem, Nodes, no_nodes, text_first, elem_first, is_sound, is_joined, has_no_nodes}
 use Rattle.pur_tree.specs.Spelling.{escaped_value, attribute_text, attributes_text, is_attr_name, is_spellable_attribute, are_spellable, is_spellable, spelling_of, start_tag_of, end_tag_of, empty_tag_of, Spells, spells_nothing, spells_text, spells_empty, spells_element}

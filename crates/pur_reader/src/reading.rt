@@ -16,9 +16,9 @@ ghost use Rattle.pur_reader.specs.Private.Reading.{Left, IsReady, HasRead, is_ta
 use crate::cuts::{behind, cut_at};
 use crate::escapes::read_escaped;
 use crate::tags::{Tag, element_named, read_tag};
+use pur_attrlist::AttrList;
 use pur_modules::is_declared_empty;
 use pur_names::Element;
-use pur_tokens::AttrList;
 use pur_tree::{Builder, Forest, is_table, level_fits, level_rise};
 use std::alloc::{AllocError, Global};
 

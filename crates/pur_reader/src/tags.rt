@@ -6,15 +6,15 @@ ghost use Rattle.std.specs.Str.{chars, IsUtf8};
 ghost use Rattle.pur_names.specs.declared.elements.Element.{Element};
 ghost use Rattle.pur_names.specs.Elements.{element_name};
 ghost use Rattle.pur_text.specs.Texts.{text_of};
-ghost use Rattle.pur_tokens.specs.Attributes.{Attribute};
+ghost use Rattle.pur_attrlist.specs.Attributes.{Attribute};
 ghost use Rattle.pur_tree.specs.Nodes.{PlainElem, plain_elem};
 ghost use Rattle.pur_tree.specs.Spelling.{is_attr_name, is_spellable_attribute, are_spellable, attribute_text, attributes_text};
 ghost use Rattle.pur_reader.specs.Private.Tags.{is_end, end_text, tag_text, IsTagRest, IsAttributeFront};
 
 use crate::cuts::{behind, cut_at};
 use crate::escapes::read_escaped;
+use pur_attrlist::AttrList;
 use pur_names::{Attr, Element};
-use pur_tokens::AttrList;
 use std::alloc::{AllocError, Global};
 
 /// A start tag or an empty tag.

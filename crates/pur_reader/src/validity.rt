@@ -10,10 +10,10 @@ ghost use Rattle.pur_reader.specs.Private.Judging.{is_excluded_by, is_right_here
 
 use crate::values::has_right_attributes;
 use crate::words::are_word;
+use pur_attrlist::AttrList;
 use pur_modules::{Content, content_of, excludes};
 use pur_names::Element;
 use pur_settings::Settings;
-use pur_tokens::AttrList;
 use pur_tree::{Forest, Node};
 use pur_uripolicy::{UriGate, UriTest};
 use pur_validity::validity_is_decided;

@@ -3,16 +3,16 @@ ghost use Rattle.std.specs.Prelude.{◌≡◌, false, IfOk};
 ghost use Rattle.std.specs.Option.{option_map, option_map_or};
 ghost use Rattle.std.specs.Str.{chars};
 ghost use Rattle.pur_text.specs.Texts.{text_of};
-ghost use Rattle.pur_tokens.specs.Attributes.{is_same_text, has_name};
+ghost use Rattle.pur_attrlist.specs.Attributes.{is_same_text, has_name};
 ghost use Rattle.pur_names.specs.Attributes.{attr_name};
 ghost use Rattle.pur_tree.specs.Nodes.{plain_elem};
 ghost use Rattle.pur_validity.specs.Attributes.{is_valid_attribute, has_valid_values, has_required, has_one_language};
 ghost use Rattle.pur_reader.specs.Private.Judging.{has_right_attributes};
 
+use pur_attrlist::AttrList;
 use pur_modules::required;
 use pur_names::{Attr, Element};
 use pur_settings::Settings;
-use pur_tokens::AttrList;
 use pur_uripolicy::{UriGate, UriTest};
 use pur_validity::{Reading, read_attribute};
 use std::alloc::{AllocError, Global};

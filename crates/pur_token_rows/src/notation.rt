@@ -1,7 +1,8 @@
 //! Tokens as the rows write them: a text in quotes, a tag in brackets with the value of each attribute between strokes,
 //! hidden content in braces behind its name, and a comment in parentheses. Where a row gives tokens, `~` stands between two.
 
-use pur_tokens::{AttrList, Tag, Token};
+use pur_attrlist::AttrList;
+use pur_tokens::{Tag, Token};
 use std::alloc::{AllocError, Global};
 
 // What stands in brackets: a name, and attributes, each with a space before it and its value between strokes.

@@ -1,9 +1,9 @@
 -- Laws of tokens in which neighbouring texts are one.
 use Rattle.std.proofs.Common.{◌≡◌, ℕ, ◌+◌, true, false, ◌&&◌, not, List, [], ◌∷◌, ◌++◌, Option, refl, sym, ap, ◌∙◌, arith, append_assoc, append-nil, length-append}
 use Rattle.std.proofs.lemmas.Bool.{and_from, and_parts, not-true, ltb-true, lt-ltb}
-use Rattle.std.proofs.lemmas.Grind.{common_steps}
 use Rattle.pur_tokens.specs.Joining.{join_token, joined, held_before, is_text, is_some_token, has_no_empty_text, begins_with_text, has_no_neighbours, count_in_token, count_in_text}
-use Rattle.pur_tokens.specs.Texts.{times}
+use Rattle.pur_attrlist.specs.Texts.{times}
+use Rattle.pur_attrlist.proofs.TextLaws.{times-append}
 use Rattle.pur_tokens.specs.Characters.{token_has_only}
 use Rattle.pur_tokens.specs.Tokens.{PlainToken, shows_only, text_token, start_token, end_token, empty_token, hidden_token, comment_token}
 use Rattle.pur_laws.proofs.Lists.{all-append}
@@ -150,9 +150,6 @@ joined-same (token ∷ tokens) none =
     ∙ by_text (λ t. not (is_text t && begins_with_text tokens) ≡ true → join_token t tokens ≡ t ∷ tokens)
     (λ s apart. text_ends s tokens (not-true _ apart)) (λ t other apart. alone t tokens other) token parts.0
 
-pub times-append : (c : ℕ) (s t : List ℕ) → times c (s ++ t) ≡ times c s + times c t
-times-append c s t = grind (arith, common_steps)
-
 count-join_token : (c : ℕ) (token : PlainToken) (tokens : List PlainToken) → count_in_text c (join_token token tokens) ≡ count_in_token c token + count_in_text c tokens
 count-join_token c token tokens =
     by_text (λ t. count_in_text c (join_token t tokens) ≡ count_in_token c t + count_in_text c tokens) (λ s. text s tokens)
@@ -178,6 +175,40 @@ count-joined c [] = refl
 count-joined c (token ∷ tokens) = count-join_token c token (joined tokens) ∙ omega (arith, count-joined c tokens)
 
 -- ---- one token more
+
+first : (a b : PlainToken) (x y : List PlainToken) → a ∷ x ≡ b ∷ y → a ≡ b
+first a b x y is = cc
+
+rest : (a b : PlainToken) (x y : List PlainToken) → a ∷ x ≡ b ∷ y → x ≡ y
+rest a b x y is = cc
+
+not_one : (a b c : PlainToken) → a ∷ b ∷ [] ≡ c ∷ [] → ⊥
+not_one a b c is = cc
+
+-- a token that takes the next one in is joined in its place
+pub taken_in : (held token both : PlainToken) → join_token held (token ∷ []) ≡ both ∷ []
+    → (more : List PlainToken) → join_token held (join_token token more) ≡ join_token both more
+taken_in held token both joins more =
+    by_text (λ h. join_token h (token ∷ []) ≡ both ∷ [] → join_token h (join_token token more) ≡ join_token both more)
+    (λ s. by_text (λ t. join_token (text_token s) (t ∷ []) ≡ both ∷ [] → join_token (text_token s) (join_token t more) ≡ join_token both more)
+    (λ t is. sym (join_token-twice s t more) ∙ ap (λ (b : PlainToken). join_token b more) (first (text_token (s ++ t)) both [] [] is))
+    (λ t other is. absurd (not_one (text_token s) t both (sym (ends (text_token s) (t ∷ []) other) ∙ is))) token)
+    (λ h other is. absurd (not_one h token both (sym (alone h (token ∷ []) other) ∙ is))) held joins
+
+-- a token that doesn't stays apart from it
+pub kept_apart : (held token front behind : PlainToken) → join_token held (token ∷ []) ≡ front ∷ behind ∷ []
+    → (more : List PlainToken) → join_token held (join_token token more) ≡ front ∷ join_token behind more
+kept_apart held token front behind joins more =
+    by_text (λ h. join_token h (token ∷ []) ≡ front ∷ behind ∷ [] → join_token h (join_token token more) ≡ front ∷ join_token behind more)
+    (λ s. by_text (λ t. join_token (text_token s) (t ∷ []) ≡ front ∷ behind ∷ [] → join_token (text_token s) (join_token t more) ≡ front ∷ join_token behind more)
+    (λ t is. absurd (not_one front behind (text_token (s ++ t)) (sym is)))
+    (λ t other is. both (text_token s) t (sym (ends (text_token s) (t ∷ []) other) ∙ is)
+    (ap (join_token (text_token s)) (alone t more other) ∙ ends (text_token s) (t ∷ more) other ∙ ap (λ (l : List PlainToken). text_token s ∷ l) (sym (alone t more other)))) token)
+    (λ h other is. both h token (sym (alone h (token ∷ []) other) ∙ is) (alone h (join_token token more) other)) held joins
+  where
+    both : (h t : PlainToken) → h ∷ t ∷ [] ≡ front ∷ behind ∷ [] → join_token h (join_token t more) ≡ h ∷ join_token t more
+        → join_token h (join_token t more) ≡ front ∷ join_token behind more
+    both h t is apart = apart ∙ (λ i. first h front (t ∷ []) (behind ∷ []) is i ∷ join_token (first t behind [] [] (rest h front (t ∷ []) (behind ∷ []) is) i) more)
 
 -- what is held joins what comes next
 pub held-next : (before after : Option PlainToken) (token : PlainToken) (given : List PlainToken)

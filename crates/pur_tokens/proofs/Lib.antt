@@ -1,7 +1,1 @@
-pub mod TextLaws
-pub mod AttributeLaws
-pub mod StorageLaws
-pub mod IndexLaws
 pub mod JoiningLaws
-pub mod StyleLaws
-pub mod DistinctLaws

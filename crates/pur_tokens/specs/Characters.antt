@@ -1,7 +1,7 @@
 -- The characters that tokens have.
-use Rattle.std.specs.Prelude.{ℕ, Bool, ◌&&◌, List}
+use Rattle.std.specs.Prelude.{ℕ, Bool, ◌&&◌}
 use Rattle.std.specs.List.{list_all}
-use Rattle.pur_tokens.specs.Attributes.{Attribute}
+use Rattle.pur_attrlist.specs.Attributes.{Attribute}
 use Rattle.pur_tokens.specs.Tokens.{PlainToken, text_token, start_token, end_token, empty_token, hidden_token, comment_token}
 
 -- an attribute whose name and value have only characters that pass the test

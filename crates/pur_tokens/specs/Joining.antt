@@ -1,7 +1,8 @@
 -- Tokens in which neighbouring texts are one, and what the texts of tokens have.
 use Rattle.std.specs.Prelude.{ℕ, ◌+◌, Bool, true, false, ◌&&◌, not, nat_lt, List, [], ◌∷◌, ◌++◌, length, Option, Some, None}
 use Rattle.std.specs.List.{list_all}
-use Rattle.pur_tokens.specs.Texts.{times}
+use Rattle.std.specs.Option.{option_map}
+use Rattle.pur_attrlist.specs.Texts.{times}
 use Rattle.pur_tokens.specs.Tokens.{PlainToken, plain_token, text_token}
 use Rattle.pur_tokens.specs.declared.tokens.Token.{Token}
 
@@ -20,10 +21,14 @@ abbrev pub held_before : Option PlainToken → List PlainToken → List PlainTok
 held_before None tokens = tokens
 held_before (Some token) tokens = join_token token tokens
 
--- the token that is given, or none
+-- what is given, if something is, as a list
+abbrev pub token_given : Option PlainToken → List PlainToken
+token_given None = []
+token_given (Some token) = token ∷ []
+
+-- what a token that is given says, or none
 abbrev pub tokens_given : Option Token → List PlainToken
-tokens_given None = []
-tokens_given (Some token) = plain_token token ∷ []
+tokens_given given = token_given (option_map plain_token given)
 
 -- whether a token is a text
 abbrev pub is_text : PlainToken → Bool

@@ -1,10 +1,6 @@
-pub mod Texts
-pub mod Attributes
-pub mod Pairs
 pub mod Tokens
 pub mod Joining
+pub mod Shown
 pub mod Characters
 pub mod Distinct
-pub mod Styles
 pub mod Pictures
-pub mod Private

@@ -1,6 +1,6 @@
 -- What is asked of the attributes of a picture.
 use Rattle.std.specs.Prelude.{ℕ, Bool, true, not, ◌||◌, List, codes}
-use Rattle.pur_tokens.specs.Attributes.{Attribute, is_same_text}
+use Rattle.pur_attrlist.specs.Attributes.{Attribute, is_same_text}
 use Rattle.pur_tokens.specs.Tokens.{PlainToken, text_token, start_token, end_token, empty_token, hidden_token, comment_token}
 
 -- a tag isn't that of a picture, or its attributes pass the test

@@ -1,7 +1,7 @@
 -- Tokens as plain values: texts are lists of characters, attributes a list of pairs.
 use Rattle.std.specs.Prelude.{ℕ, Bool, false, List, length, nat_lt}
-use Rattle.pur_tokens.specs.Texts.{text_of}
-use Rattle.pur_tokens.specs.Attributes.{Attribute}
+use Rattle.pur_attrlist.specs.Texts.{text_of}
+use Rattle.pur_attrlist.specs.Attributes.{Attribute}
 use Rattle.pur_tokens.specs.declared.tokens.Token.{Token}
 use Rattle.pur_tokens.specs.declared.tokens.Token.TheVariants.{Text, Start, End, Empty, Hidden, Comment}
 

@@ -1,22 +1,13 @@
-//! Tokens of HTML and the attribute lists of their tags. An attribute list is seen as the list of its pairs of name and
-//! value, in the order of their coming, with no two names equal, and each of its calls is exact on that list. A long list is
-//! indexed while it grows, so that a tag with many names doesn't cost a search along all of them for each.
+//! Tokens of HTML: as they are read, by name, and as they are shown, by element; and the joining of texts that are neighbours.
 
 #![tactic(auto)]
 
-mod attribute_list;
-mod indexed_pairs;
 mod joiner;
 mod laws;
-mod pairs_in_order;
-mod stored_pair;
-mod stored_pairs;
-mod styles;
+mod shown;
 mod tokens;
 
-pub use attribute_list::AttrList;
-pub use joiner::Joiner;
+pub use joiner::{Joiner, Joins};
 pub use laws::{joined_have_no_neighbours, joining_keeps_texts, joining_settles};
-pub use stored_pair::Pair;
-pub use styles::put_style;
+pub use shown::{Shown, ShownTag};
 pub use tokens::{Tag, Token};

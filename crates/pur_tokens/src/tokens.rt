@@ -1,6 +1,14 @@
 //! What the text of a fragment is cut into.
 
-use crate::AttrList;
+ghost use Rattle.std.specs.Prelude.{◌≡◌, [], ◌∷◌, IfOk, OnErr};
+ghost use Rattle.std.specs.Option.{option_map};
+ghost use Rattle.pur_attrlist.specs.Texts.{text_of};
+ghost use Rattle.pur_tokens.specs.Joining.{join_token, token_given};
+ghost use Rattle.pur_tokens.specs.Tokens.{plain_token, text_token};
+
+use crate::joiner::Joins;
+use pur_attrlist::AttrList;
+use std::alloc::AllocError;
 
 /// The name and the attributes of a start tag or of an empty tag.
 #[derive(Drop)]
@@ -34,4 +42,30 @@ pub enum Token {
     },
     /// A comment, a declaration or a processing instruction.
     Comment(String),
+}
+
+impl Joins for Token {
+    ghost use Rattle.pur_tokens.specs.Tokens.{plain_token};
+
+    ghost says = { plain_token };
+
+    fn join(&mut self, next: Token) -> Result<Option<Token>, AllocError> {
+        match next {
+            Token::Text(text) => join_text(self, text),
+            other => Ok(Some(other)),
+        }
+    }
+}
+
+// The same of a text.
+fn join_text(token: &mut Token, text: String) -> Result<Option<Token>, AllocError>
+    ensures ok { IfOk result (λ left. join_token (plain_token token.old) (text_token (text_of text) ∷ [])
+        ≡ plain_token token.new ∷ token_given (option_map plain_token left)) }
+    ensures err { OnErr result (plain_token token.new ≡ plain_token token.old) }
+{
+    if let Token::Text(run) = token {
+        run.push_str(text.as_str())?;
+        return Ok(None);
+    }
+    Ok(Some(Token::Text(text)))
 }

@@ -10,7 +10,7 @@ use Rattle.pur_text.specs.Escapes.{escape}
 use Rattle.pur_names.specs.declared.attributes.Attr.{Attr}
 use Rattle.pur_names.specs.Attributes.{attr_name, all_attrs}
 use Rattle.pur_names.specs.Elements.{element_name}
-use Rattle.pur_tokens.specs.Attributes.{Attribute}
+use Rattle.pur_attrlist.specs.Attributes.{Attribute}
 use Rattle.pur_tree.specs.Nodes.{PlainElem}
 use Rattle.pur_tree.specs.Spelling.{escape_in_value, escaped_value, attribute_text, attributes_text, is_attr_name, is_spellable_attribute}
 use Rattle.pur_tree.proofs.CutLemmas.{is_stop, run_cut, tail_same}

@@ -9,7 +9,7 @@ use Rattle.pur_modules.specs.Contents.{is_empty_element}
 use Rattle.pur_tree.specs.Nodes.{PlainElem, Nodes, no_nodes, text_first, elem_first, nodes_append, has_no_nodes, is_sound, level_in}
 use Rattle.pur_tree.specs.Places.{Place, inside, level_limit, fragment}
 use Rattle.pur_tree.specs.Forests.{IsForest}
-use Rattle.pur_tokens.specs.Attributes.{is_distinct}
+use Rattle.pur_attrlist.specs.Attributes.{is_distinct}
 use Rattle.pur_tree.specs.Properties.{Property, Holds, levels, soundness, spellable, allowed, distinct}
 use Rattle.pur_tree.specs.Spelling.{are_spellable, is_spellable, has_allowed_values, has_allowed_characters, has_distinct_names}
 use Rattle.pur_tree.specs.Walks.{walk, text_joined, joined_nodes}

@@ -6,7 +6,7 @@ use Rattle.pur_names.specs.declared.elements.Element.{Element}
 use Rattle.pur_tree.specs.declared.node.Node.{Node, Text, Elem', Row_of-Node, end_of-Node, more_of-Node}
 use Rattle.pur_tree.specs.declared.node.Node.TheBlock as block
 use Rattle.pur_tree.specs.declared.node.Node.TheVariants as variants
-use Rattle.pur_tokens.specs.Attributes.{Attribute}
+use Rattle.pur_attrlist.specs.Attributes.{Attribute}
 use Rattle.pur_tree.specs.Nodes.{plain_elem, Nodes, no_nodes, text_first, elem_first, nodes_append}
 use Rattle.pur_tree.specs.Image.{node_before, row_nodes, nodes_of}
 

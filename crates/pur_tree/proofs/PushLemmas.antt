@@ -7,7 +7,7 @@ use Rattle.std.specs.declared.vec.IntoIter.{IntoIter}
 use Rattle.std.specs.Vec.Iter.{into_iter_items, into_iter_len}
 use Rattle.std.proofs.lemmas.List.{nil_from_length}
 use Rattle.pur_names.specs.declared.elements.Element.{Element}
-use Rattle.pur_tokens.specs.Attributes.{Attribute}
+use Rattle.pur_attrlist.specs.Attributes.{Attribute}
 use Rattle.pur_tree.specs.declared.node.Node.{Node, Elem'}
 use Rattle.pur_tree.specs.declared.node.Node.TheBlock as block
 use Rattle.pur_tree.specs.declared.node.Node.TheVariants as variants

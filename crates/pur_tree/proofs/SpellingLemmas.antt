@@ -4,7 +4,7 @@ use Rattle.std.proofs.lemmas.List.{append_cancel_left}
 use Rattle.pur_names.specs.declared.elements.Element.{Element}
 use Rattle.pur_names.specs.Elements.{element_name}
 use Rattle.pur_modules.specs.Contents.{is_empty_element}
-use Rattle.pur_tokens.specs.Attributes.{is_distinct}
+use Rattle.pur_attrlist.specs.Attributes.{is_distinct}
 use Rattle.pur_tree.specs.Nodes.{PlainElem, plain_elem, Nodes, no_nodes, text_first, elem_first, is_sound, is_joined, has_no_nodes, starts_with_text}
 use Rattle.pur_tree.specs.Spelling.{start_tag_of, end_tag_of, empty_tag_of, attributes_text, are_spellable, spelling_of, is_spellable, Spells, spells_nothing, spells_text, spells_empty, spells_element}
 use Rattle.pur_text.specs.Escapes.{escaped}

@@ -3,7 +3,7 @@ use Rattle.std.proofs.lemmas.Bool.{and_parts}
 use Rattle.pur_laws.proofs.Truth.{and_false}
 use Rattle.pur_modules.specs.Contents.{is_empty_element}
 use Rattle.pur_names.specs.declared.elements.Element.{Element}
-use Rattle.pur_tokens.proofs.JoiningLaws.{times-append}
+use Rattle.pur_attrlist.proofs.TextLaws.{times-append}
 use Rattle.pur_tree.specs.Walks.{count_in_text}
 use Rattle.pur_tree.specs.Nodes.{PlainElem, Nodes, no_nodes, text_first, elem_first, is_sound, is_joined, has_no_nodes}
 use Rattle.pur_tree.specs.Building.{ends_with_text}

@@ -1,7 +1,7 @@
 use Rattle.std.proofs.Common.{◌≡◌, ℕ, ◌+◌, true, not, ◌++◌, List, append_assoc, refl, ap, sym, ◌∙◌, arith}
 use Rattle.std.proofs.lemmas.Bool.{and_from, and_parts}
-use Rattle.pur_tokens.proofs.JoiningLaws.{times-append}
-use Rattle.pur_tokens.specs.Texts.{times}
+use Rattle.pur_attrlist.proofs.TextLaws.{times-append}
+use Rattle.pur_attrlist.specs.Texts.{times}
 use Rattle.pur_tree.specs.Nodes.{PlainElem, Nodes, is_joined, starts_with_text, level_in, no_nodes, text_first, elem_first, nodes_append}
 use Rattle.pur_tree.proofs.NodesLemmas.{nodes_append-assoc}
 use Rattle.pur_tree.specs.Places.{Place, inside}

@@ -1,7 +1,7 @@
 use Rattle.std.specs.Prelude.{ℕ, List, [], length, Bool, true, false, max, ◌&&◌, ◌||◌, not, nat_lt}
 use Rattle.pur_names.specs.declared.elements.Element.{Element}
 use Rattle.pur_modules.specs.Contents.{is_empty_element}
-use Rattle.pur_tokens.specs.Attributes.{Attribute}
+use Rattle.pur_attrlist.specs.Attributes.{Attribute}
 use Rattle.pur_tree.specs.Places.{Place, fragment, inside}
 
 -- an element without its children: its name and its attributes, in order

@@ -10,7 +10,7 @@ use Rattle.pur_modules.specs.declared.kinds.Content.{Content}
 use Rattle.pur_modules.specs.declared.kinds.Doctype.{Doctype}
 use Rattle.pur_modules.specs.Contents.{content_held, is_empty_element, is_excluded_in}
 use Rattle.pur_modules.specs.Expressions.{is_letter}
-use Rattle.pur_tokens.specs.Attributes.{Attribute, is_distinct}
+use Rattle.pur_attrlist.specs.Attributes.{Attribute, is_distinct}
 use Rattle.pur_tree.specs.Nodes.{PlainElem, Nodes, no_nodes, text_first, elem_first}
 use Rattle.pur_tree.specs.Places as places
 use Rattle.pur_tree.specs.Spelling.{are_spellable, has_allowed_values}

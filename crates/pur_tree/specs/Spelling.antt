@@ -7,7 +7,7 @@ use Rattle.pur_names.specs.declared.elements.Element.{Element}
 use Rattle.pur_names.specs.Elements.{element_name}
 use Rattle.pur_names.specs.Attributes.{attr_name, all_attrs}
 use Rattle.pur_modules.specs.Contents.{is_empty_element}
-use Rattle.pur_tokens.specs.Attributes.{Attribute, is_distinct}
+use Rattle.pur_attrlist.specs.Attributes.{Attribute, is_distinct}
 use Rattle.pur_tree.specs.Nodes.{PlainElem, Nodes, no_nodes, text_first, elem_first, starts_with_text}
 
 -- a character as it is written in a value, which stands between quotation marks (XML 1.0, section 2.3)

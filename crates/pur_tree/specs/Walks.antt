@@ -1,6 +1,6 @@
 -- Nodes gone through from the leaves up.
 use Rattle.std.specs.Prelude.{ℕ, ◌+◌, List, ◌++◌}
-use Rattle.pur_tokens.specs.Texts.{times}
+use Rattle.pur_attrlist.specs.Texts.{times}
 use Rattle.pur_tree.specs.Nodes.{PlainElem, Nodes, no_nodes, text_first, elem_first, nodes_append}
 
 -- nodes gone through from the leaves up: texts stay, and in an element's place stands what the rule makes of it and of its

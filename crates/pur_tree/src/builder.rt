@@ -10,8 +10,8 @@ ghost use Rattle.pur_tree.specs.Tokens.{opening_of, closing_of, text_token, join
 use crate::forest::Forest;
 use crate::node::{Elem, Node};
 use crate::room::without_slack;
+use pur_attrlist::AttrList;
 use pur_names::Element;
-use pur_tokens::AttrList;
 use std::alloc::{AllocError, Global};
 use std::marker::Model;
 use std::mem;

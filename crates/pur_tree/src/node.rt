@@ -1,5 +1,5 @@
+use pur_attrlist::AttrList;
 use pur_names::Element;
-use pur_tokens::AttrList;
 
 /// A node of a tree: a text or an element.
 #[cycle(node)]

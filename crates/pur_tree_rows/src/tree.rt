@@ -7,8 +7,8 @@ ghost use Rattle.pur_tree.specs.Image.{nodes_of};
 ghost use Rattle.pur_tree.specs.Nodes.{PlainElem, Nodes, no_nodes, elem_first, plain_elem, nodes_append};
 
 use crate::endings::{Failing, assert_holds, assert_none_fails, first_false};
+use pur_attrlist::AttrList;
 use pur_names::Element;
-use pur_tokens::AttrList;
 use pur_tree::{Builder, Elem, Forest, Node, Rule, walk_nodes};
 use std::alloc::{AllocError, Global};
 

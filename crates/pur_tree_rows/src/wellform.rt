@@ -6,9 +6,10 @@ ghost use Rattle.pur_tokens.specs.Tokens.{plain_token};
 ghost use Rattle.pur_wellform.specs.Standing.{can_be_closed};
 
 use crate::endings::{Failing, assert_none_fails, first_false};
+use pur_attrlist::AttrList;
 use pur_names::Element;
 use pur_settings::Settings;
-use pur_tokens::{AttrList, Tag, Token};
+use pur_tokens::{Tag, Token};
 use pur_tree::{Elem, Node};
 use pur_wellform::make_wellformed;
 use std::alloc::{AllocError, Global};

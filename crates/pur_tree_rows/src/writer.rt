@@ -4,8 +4,8 @@ ghost use Rattle.std.specs.Prelude.{◌≡◌, []};
 ghost use Rattle.pur_tree.specs.Building.{opened_of};
 
 use crate::endings::{Failing, assert_holds, assert_none_fails};
+use pur_attrlist::AttrList;
 use pur_names::Element;
-use pur_tokens::AttrList;
 use pur_tree::{Builder, Forest};
 use pur_writer::write;
 use std::alloc::{AllocError, Global};

@@ -4,7 +4,8 @@ use Rattle.pur_names.specs.declared.attributes.Attr.TheVariants.{Lang}
 use Rattle.pur_names.specs.declared.elements.Element.{Element}
 use Rattle.pur_names.specs.declared.elements.Element.TheVariants.{A, Bdo, Div, Img, P}
 use Rattle.pur_settings.specs.Rules.{Rules, default_rules}
-use Rattle.pur_tokens.specs.Attributes.{Attribute}
+use Rattle.pur_settings.specs.declared.items.Item.TheVariants.{Everywhere}
+use Rattle.pur_attrlist.specs.Attributes.{Attribute}
 use Rattle.pur_tree.specs.Nodes.{Nodes, no_nodes, elem_first, plain_elem}
 use Rattle.pur_uripolicy.specs.HostRules.{PlainHostRule}
 use Rattle.pur_validity.specs.Deciding.{have_valid_attributes}
@@ -26,7 +27,7 @@ prefixed prefix = record default_rules { ids = true; id_prefix = prefix }
 
 -- `lang` alone is listed
 abbrev languages_alone : Rules
-languages_alone = record default_rules { attributes = Some (Lang ∷ []) }
+languages_alone = record default_rules { attributes = Some (Everywhere Lang ∷ []) }
 
 -- no host is denied
 abbrev any_host : PlainHostRule

@@ -17,7 +17,7 @@ use Rattle.pur_uripolicy.specs.declared.uses.UriUse.{UriUse}
 use Rattle.pur_uripolicy.specs.declared.uses.UriUse.TheVariants.{Embed, Link}
 use Rattle.pur_values.specs.Kinds.{kind_of}
 use Rattle.pur_values.specs.Values as values
-use Rattle.pur_tokens.specs.Attributes.{Attribute, is_same_text, has_name, value_of}
+use Rattle.pur_attrlist.specs.Attributes.{Attribute, is_same_text, has_name, value_of}
 use Rattle.pur_tree.specs.Nodes.{PlainElem, Nodes, no_nodes, text_first, elem_first}
 
 -- the canonical text of a URI, where it is admissible for a use under settings and a rule of hosts

@@ -5,7 +5,7 @@ use Rattle.std.specs.List.{list_all}
 use Rattle.std.proofs.lemmas.Bool.{and_parts, and_from}
 use Rattle.pur_laws.proofs.Lists.{all-append, all-weaker}
 use Rattle.pur_text.specs.Characters.{is_allowed}
-use Rattle.pur_tokens.specs.Attributes.{Attribute}
+use Rattle.pur_attrlist.specs.Attributes.{Attribute}
 use Rattle.pur_tokens.specs.Characters.{attribute_has_only, token_has_only}
 use Rattle.pur_tree.specs.Nodes.{PlainElem, Nodes}
 use Rattle.pur_tree.specs.Spelling.{has_allowed_values, has_allowed_characters}

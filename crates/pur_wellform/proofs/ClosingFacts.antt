@@ -12,7 +12,7 @@ use Rattle.std.specs.List.{list_all}
 use Rattle.pur_tree.specs.Nodes.{Nodes, is_sound}
 use Rattle.pur_tree.specs.Tokens.{IsTreeOf, tree_of}
 use Rattle.pur_tokens.specs.Joining as reading
-use Rattle.pur_tokens.specs.Texts.{times}
+use Rattle.pur_attrlist.specs.Texts.{times}
 use Rattle.pur_tree.specs.Tokens.{count_in_written}
 use Rattle.pur_tree.specs.Walks.{count_in_text}
 use Rattle.pur_tree.proofs.TokensLemmas.{count-tokens}

@@ -100,13 +100,13 @@ none_pend true S rest = refl
 none_pend false S rest = refl
 
 -- a tag is looked up to its element
-named_start : (rules : Rules) (e : PlainElem) (s : State) → step rules (as_read (start_token e)) s ≡ start_step rules e false s
+pub named_start : (rules : Rules) (e : PlainElem) (s : State) → step rules (as_read (start_token e)) s ≡ start_step rules e false s
 named_start rules e s = ap (λ found. for_element found (λ element. start_step rules (plain_elem element e.attrs) false) s) (element_named-name e.name)
 
-named_empty : (rules : Rules) (e : PlainElem) (s : State) → step rules (as_read (empty_token e)) s ≡ start_step rules e true s
+pub named_empty : (rules : Rules) (e : PlainElem) (s : State) → step rules (as_read (empty_token e)) s ≡ start_step rules e true s
 named_empty rules e s = ap (λ found. for_element found (λ element. start_step rules (plain_elem element e.attrs) true) s) (element_named-name e.name)
 
-named_end : (rules : Rules) (e : Element) (s : State) → step rules (as_read (end_token e)) s ≡ end_step e s
+pub named_end : (rules : Rules) (e : Element) (s : State) → step rules (as_read (end_token e)) s ≡ end_step e s
 named_end rules e s = ap (λ found. for_element found end_step s) (element_named-name e)
 
 -- the end tag of the innermost element

@@ -4,7 +4,7 @@ use Rattle.std.specs.List.{list_all}
 use Rattle.std.proofs.lemmas.Bool.{and_parts, and_from, not-true, lt-ltb, ltb-true}
 use Rattle.pur_names.specs.declared.elements.Element.{Element}
 use Rattle.pur_modules.specs.Contents.{is_empty_element}
-use Rattle.pur_tokens.specs.Attributes.{Attribute, is_distinct}
+use Rattle.pur_attrlist.specs.Attributes.{Attribute, is_distinct}
 use Rattle.pur_tokens.specs.Distinct.{shows_distinct}
 use Rattle.pur_tokens.specs.Tokens as read
 use Rattle.pur_settings.specs.Rules.{Rules, permits_name}

@@ -6,7 +6,7 @@ use Rattle.pur_modules.specs.Contents.{is_empty_element, is_excluded_in}
 use Rattle.pur_modules.specs.Wrappers.{is_running}
 use Rattle.pur_settings.specs.Rules.{Rules}
 use Rattle.pur_tree.specs.Tokens.{text_token, start_token, end_token, empty_token, count_in_written}
-use Rattle.pur_tokens.specs.Attributes.{Attribute}
+use Rattle.pur_attrlist.specs.Attributes.{Attribute}
 use Rattle.pur_tokens.specs.Tokens as read
 use Rattle.pur_names.specs.Elements.{element_named}
 use Rattle.pur_tree.specs.Nodes.{PlainElem, plain_elem}
@@ -15,8 +15,8 @@ use Rattle.pur_wellform.specs.Search.{level_in, Entry, barred, direct, inside, e
 use Rattle.pur_text.specs.Characters.{is_blank}
 use Rattle.pur_wellform.specs.Closing.{State, Run, names, kept, changed_to, writing, losing, both_runs, followed_by, close_inner, enter, enter_and_close, cost, fits_again, enter_again, turn_of, turns_of, reopen, enter_wrapper, reopen_before, enter_tag, put_tag, put_at, start_step, put_text, put_text_by, text_step, end_at, end_step, for_element, step, steps, end_all, first_state, run_of, closed}
 use Rattle.pur_tokens.specs.Joining.{count_in_text}
-use Rattle.pur_tokens.specs.Texts.{times}
-use Rattle.pur_tokens.proofs.JoiningLaws.{times-append}
+use Rattle.pur_attrlist.specs.Texts.{times}
+use Rattle.pur_attrlist.proofs.TextLaws.{times-append}
 
 -- a run writes and loses a character so many times
 record Holds (c : ℕ) (n : ℕ) (run : Run) : Type 0 where

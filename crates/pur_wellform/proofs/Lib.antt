@@ -19,3 +19,4 @@ pub mod PassingFacts
 pub mod AllowedFacts
 pub mod PictureFacts
 pub mod ForestFacts
+pub mod ShownFacts

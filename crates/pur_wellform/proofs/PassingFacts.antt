@@ -13,7 +13,7 @@ use Rattle.pur_modules.specs.Groups.{is_among}
 use Rattle.pur_modules.specs.Wrappers.{is_running}
 use Rattle.pur_modules.specs.declared.kinds.Child.{Child}
 use Rattle.pur_modules.specs.declared.kinds.Child.TheVariants.{Text, Elem}
-use Rattle.pur_tokens.specs.Attributes.{Attribute}
+use Rattle.pur_attrlist.specs.Attributes.{Attribute}
 use Rattle.pur_tokens.specs.Tokens as read
 use Rattle.pur_settings.specs.Rules.{Rules}
 use Rattle.pur_tree.specs.Nodes.{PlainElem, plain_elem, bare, Nodes, no_nodes, text_first, elem_first}

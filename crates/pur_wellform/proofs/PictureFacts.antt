@@ -9,7 +9,7 @@ use Rattle.pur_names.specs.declared.elements.Element.TheVariants.{Img}
 use Rattle.pur_names.proofs.ElementLaws.{same_element-Decides}
 use Rattle.pur_modules.specs.Groups.{is_among}
 use Rattle.pur_modules.proofs.AmongLaws.{among-passes}
-use Rattle.pur_tokens.specs.Attributes.{Attribute, is_same_text}
+use Rattle.pur_attrlist.specs.Attributes.{Attribute, is_same_text}
 use Rattle.pur_tokens.specs.Pictures.{has_good_picture, is_good_tag}
 use Rattle.pur_tree.specs.Nodes.{plain_elem, bare}
 use Rattle.pur_tree.specs.Properties.{Holds, pictures, is_good_picture}

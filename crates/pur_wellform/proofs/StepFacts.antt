@@ -7,7 +7,7 @@ use Rattle.pur_names.specs.declared.elements.Element.TheVariants.{Tr}
 use Rattle.pur_modules.specs.declared.kinds.Child.TheVariants.{Text, Elem}
 use Rattle.pur_modules.specs.Contents.{is_excluded, is_excluded_in}
 use Rattle.pur_modules.specs.Wrappers.{is_running}
-use Rattle.pur_tokens.specs.Attributes.{Attribute}
+use Rattle.pur_attrlist.specs.Attributes.{Attribute}
 use Rattle.pur_settings.specs.Rules.{Rules, permits_element}
 use Rattle.pur_tree.specs.Tokens.{text_token}
 use Rattle.pur_tree.specs.Places as levels

@@ -6,7 +6,7 @@ use Rattle.pur_settings.specs.Rules.{Rules, permits_element}
 use Rattle.pur_tree.specs.Building.{written_of}
 use Rattle.pur_tree.specs.Nodes.{PlainElem, plain_elem}
 use Rattle.pur_tree.specs.Tokens.{start_token, joined}
-use Rattle.pur_tokens.specs.Attributes.{Attribute}
+use Rattle.pur_attrlist.specs.Attributes.{Attribute}
 use Rattle.pur_wellform.specs.declared.machine.Machine.{Machine}
 use Rattle.pur_wellform.specs.declared.machine.Pending.{Pending}
 use Rattle.pur_wellform.specs.Closing.{State, Run, names, kept, is_formatting, both_runs, changed_to, enter, enter_again, cost, fits_again, turn_of, turns_of, reopen}

@@ -10,7 +10,7 @@ use Rattle.pur_modules.specs.declared.kinds.Child.TheVariants.{Text, Elem}
 use Rattle.pur_modules.specs.Contents.{is_empty_element, is_excluded_in}
 use Rattle.pur_modules.specs.Groups.{is_among}
 use Rattle.pur_modules.specs.Wrappers.{is_running}
-use Rattle.pur_tokens.specs.Attributes.{weight_of}
+use Rattle.pur_attrlist.specs.Attributes.{weight_of}
 use Rattle.pur_tokens.specs.Tokens as read
 use Rattle.pur_settings.specs.Rules.{Rules}
 use Rattle.pur_tree.specs.Nodes.{PlainElem, plain_elem, bare}

@@ -2,7 +2,7 @@
 use Rattle.std.specs.Prelude.{ℕ, ◌+◌, ◌≤◌, ◌≡◌, Bool, true, List, [], map, length}
 use Rattle.std.specs.List.{list_all}
 use Rattle.pur_names.specs.Elements.{element_name}
-use Rattle.pur_tokens.specs.Attributes.{Attribute}
+use Rattle.pur_attrlist.specs.Attributes.{Attribute}
 use Rattle.pur_text.specs.Characters.{is_allowed}
 use Rattle.pur_tokens.specs.Characters.{token_has_only}
 use Rattle.pur_tokens.specs.Distinct.{shows_distinct}
@@ -15,7 +15,7 @@ use Rattle.pur_tree.specs.Places.{level_limit}
 use Rattle.pur_tree.specs.Properties.{Holds, permitted, letters, free, pictures}
 use Rattle.pur_tree.specs.Tokens.{Token, text_token, start_token, end_token, empty_token, tree_of, tokens_of_nodes, count_in_written, IsTreeOf}
 use Rattle.pur_tokens.specs.Joining.{count_in_text}
-use Rattle.pur_tokens.specs.Texts.{times}
+use Rattle.pur_attrlist.specs.Texts.{times}
 use Rattle.pur_wellform.specs.Closing.{closed, lost_in_closing, paid, steps, first_state, pending_limit, allowance}
 use Rattle.pur_tree.specs.Spelling.{has_allowed_characters, has_distinct_names}
 use Rattle.pur_wellform.specs.Standing.{can_be_closed, Stands}

@@ -1,5 +1,8 @@
 -- Where nodes may stand in what closing gives.
-use Rattle.std.specs.Prelude.{ℕ, ◌≤◌, ◌≡◌, Bool, true, false, List, ◌∷◌, ◌||◌}
+use Rattle.std.specs.Prelude.{ℕ, ◌≤◌, ◌≡◌, Bool, true, false, List, ◌∷◌, ◌||◌, length, nat_lt}
+use Rattle.pur_attrlist.specs.Texts.{text_of}
+use Rattle.pur_tokens.specs.declared.shown.Shown.{Shown}
+use Rattle.pur_tokens.specs.declared.shown.Shown.TheVariants as shown
 use Rattle.pur_names.specs.declared.elements.Element.{Element}
 use Rattle.pur_modules.specs.declared.kinds.Child.TheVariants.{Text, Elem}
 use Rattle.pur_modules.specs.Contents.{is_excluded_in}
@@ -13,6 +16,13 @@ use Rattle.pur_wellform.specs.Search.{allows, level_in}
 -- whether a token may be closed: each tag names a permitted element, no text is empty, and hidden content and comments are gone
 abbrev pub can_be_closed : Rules → PlainToken → Bool
 can_be_closed rules token = shows_only (permits_name rules) token
+
+-- the same of a piece: its element is permitted, or its text isn't empty
+abbrev pub may_be_closed : Rules → Shown → Bool
+may_be_closed rules (shown.Text text) = nat_lt 0 (length (text_of text))
+may_be_closed rules (shown.Start tag) = permits_element rules tag.element
+may_be_closed rules (shown.End element) = permits_element rules element
+may_be_closed rules (shown.Empty tag) = permits_element rules tag.element
 
 -- an element may stand directly inside of open ones, which are given innermost first: it is permitted, a letter of the content
 -- there, excluded by none of them, and its level is within the limit

@@ -1,6 +1,7 @@
 //! Closing, token by token and for a list of tokens.
 ghost use Rattle.std.specs.Prelude.{◌≡◌, ◌≤◌, ◌+◌, ◌∷◌, ℕ, List, [], true, length, map, IfOk, IsTrue, OnOk, OnErr};
 ghost use Rattle.std.specs.List.{list_all};
+ghost use Rattle.pur_tokens.specs.Shown.{plain_shown};
 ghost use Rattle.pur_tokens.specs.Tokens.{PlainToken, plain_token};
 ghost use Rattle.pur_settings.specs.Rules.{Rules, permits_element};
 ghost use Rattle.pur_tree.specs.Forests.{IsForest};
@@ -10,17 +11,18 @@ ghost use Rattle.pur_tree.specs.Places.{level_limit};
 ghost use Rattle.pur_tree.specs.Properties.{Holds, permitted, letters, free};
 ghost use Rattle.pur_tree.specs.Tokens.{IsTreeOf};
 ghost use Rattle.pur_tokens.specs.Joining as reading;
-ghost use Rattle.pur_tokens.specs.Texts.{times};
+ghost use Rattle.pur_attrlist.specs.Texts.{times};
 ghost use Rattle.pur_tree.specs.Walks.{count_in_text};
 ghost use Rattle.pur_wellform.specs.Closing.{closed, lost_in_closing, paid, steps, first_state, pending_limit, allowance};
-ghost use Rattle.pur_wellform.specs.Standing.{can_be_closed};
+ghost use Rattle.pur_wellform.specs.Standing.{can_be_closed, may_be_closed};
 ghost use Rattle.pur_wellform.specs.Progress.{closed_behind, before_all};
 ghost use Rattle.pur_wellform.specs.Private.Machines.{IsFirst};
 
 use crate::machine::Machine;
-use crate::steps::put_token;
+use crate::reading::shown;
+use crate::steps::put_shown;
 use pur_settings::Settings;
-use pur_tokens::Token;
+use pur_tokens::{Shown, Token};
 use pur_tree::{Builder, Forest};
 use std::alloc::{AllocError, Global};
 use std::collections::VecDeque;
@@ -66,13 +68,28 @@ fn close_all(alloc: Global, settings: &Settings, tokens: Vec<Token>) -> Result<F
 {
     let mut closing = Closing::new(alloc, settings);
     for token in tokens {
-        closing.put(token)?;
+        put_token(&mut closing, token)?;
     }
     let forest = closing.finish()?;
     Ok(forest)
 }
 
-/// Closes tokens that come one at a time, as `make_wellformed` does those of a list.
+// Takes the next token, by name.
+fn put_token(closing: &mut Closing<'_>, token: Token) -> Result<(), AllocError>
+    requires { can_be_closed closing.old.rules (plain_token token) ≡ true }
+    ensures ok { OnOk result ((more : List PlainToken) → closed_behind closing.new more ≡ closed_behind closing.old (plain_token token ∷ more)) }
+    ensures rules { closing.new.rules ≡ closing.old.rules }
+{
+    match shown(token) {
+        Some(shown) => {
+            closing.put(shown)?;
+            Ok(())
+        }
+        None => Ok(()),
+    }
+}
+
+/// Closes pieces that come one at a time, by element, as `make_wellformed` does the tokens of a list, by name.
 ///
 /// Holds the forest that is built, the open elements and the formatting that waits to be opened again. Contracts see the
 /// settings, that state, and what was written.
@@ -104,17 +121,17 @@ impl<'a> Closing<'a> {
         }
     }
 
-    /// Takes the next token, whose tag must name a permitted element and whose text must not be empty.
+    /// Takes the next piece, whose element must be permitted and whose text must not be empty.
     ///
     /// The error is want of memory, and it is then as before all tokens.
-    pub fn put(&mut self, token: Token) -> Result<(), AllocError>
-        requires { can_be_closed self.old.rules (plain_token token) ≡ true }
-        ensures ok { OnOk result ((more : List PlainToken) → closed_behind self.new more ≡ closed_behind self.old (plain_token token ∷ more)) }
+    pub fn put(&mut self, shown: Shown) -> Result<(), AllocError>
+        requires { may_be_closed self.old.rules shown ≡ true }
+        ensures ok { OnOk result ((more : List PlainToken) → closed_behind self.new more ≡ closed_behind self.old (plain_shown shown ∷ more)) }
         ensures err { OnErr result (self.new ≡ before_all self.old.rules) }
         ensures rules { self.new.rules ≡ self.old.rules }
         ensures few { length self.new.state.pending ≤ pending_limit }
     {
-        match put_token(&mut self.machine, self.settings, token) {
+        match put_shown(&mut self.machine, self.settings, shown) {
             Ok(()) => Ok(()),
             Err(error) => {
                 self.machine = first_machine(self.machine.alloc);

@@ -5,6 +5,7 @@ mod closing;
 mod laws;
 mod machine;
 mod open_elements;
+mod reading;
 mod reopening;
 mod search;
 mod steps;

@@ -2,7 +2,7 @@
 ghost use Rattle.std.specs.Prelude.{◌≡◌, ◌≤◌, ◌<◌, ◌-◌, ◌++◌, ◌∷◌, [], false, suc, length, drop, OnOk, IfOk, string_bytes};
 ghost use Rattle.std.specs.List.{list_any};
 ghost use Rattle.pur_modules.specs.Contents.{is_empty_element};
-ghost use Rattle.pur_tokens.specs.Texts.{text_of};
+ghost use Rattle.pur_attrlist.specs.Texts.{text_of};
 ghost use Rattle.pur_tree.specs.Nodes.{plain_elem};
 ghost use Rattle.pur_tree.specs.Places.{level_limit};
 ghost use Rattle.pur_tree.specs.Tokens.{text_token};
@@ -13,10 +13,10 @@ ghost use Rattle.pur_wellform.specs.Private.Machines.{IsMachine, Did, state_of, 
 
 use crate::open_elements::{Open, opening};
 use crate::search::is_shut;
+use pur_attrlist::AttrList;
 use pur_modules::is_declared_empty;
 use pur_names::Element;
 use pur_settings::Settings;
-use pur_tokens::AttrList;
 use pur_tree::Builder;
 use std::alloc::{AllocError, Global};
 use std::collections::VecDeque;

@@ -8,10 +8,10 @@ ghost use Rattle.pur_tree.specs.Places.{level_limit};
 ghost use Rattle.pur_wellform.specs.Search.{content_in, level_in};
 ghost use Rattle.pur_wellform.specs.Private.Opens.{names_of, AreOpen, IsOpen};
 
+use pur_attrlist::AttrList;
 use pur_modules::{Content, content_of, excludes};
 use pur_names::Element;
 use pur_settings::Settings;
-use pur_tokens::AttrList;
 use pur_tree::{is_table, level_rise};
 
 // An open element, and what is known inside of it: what it holds, its level, and which of the elements that exclude others

@@ -3,7 +3,7 @@ ghost use Rattle.std.specs.Prelude.{◌≡◌, ◌≤◌, ◌<◌, ◌+◌, ◌-
 ghost use Rattle.std.specs.List.{list_any};
 ghost use Rattle.pur_modules.specs.Wrappers.{is_running};
 ghost use Rattle.pur_modules.specs.declared.kinds.Child.TheVariants.{Elem};
-ghost use Rattle.pur_tokens.specs.Attributes.{weight_of};
+ghost use Rattle.pur_attrlist.specs.Attributes.{weight_of};
 ghost use Rattle.pur_tree.specs.Places.{level_limit};
 ghost use Rattle.pur_wellform.specs.Closing.{fits_again, turn_of, reopen, reopen_before};
 ghost use Rattle.pur_wellform.specs.Invariants.{Kept, is_pendable};
@@ -12,10 +12,10 @@ ghost use Rattle.pur_wellform.specs.Private.Machines.{IsMachine, Did, state_of, 
 
 use crate::machine::{Machine, Pending, enter};
 use crate::open_elements::{content_at, is_excluded_at, level_inside};
+use pur_attrlist::AttrList;
 use pur_modules::{Child, Doctype, allows, is_edit, is_inline};
 use pur_names::Element;
 use pur_settings::Settings;
-use pur_tokens::AttrList;
 use std::alloc::AllocError;
 
 // The greatest level that formatting may have before an inline element, which takes one more.

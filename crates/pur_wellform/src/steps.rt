@@ -1,17 +1,15 @@
 // What each token does.
 ghost use Rattle.std.specs.Prelude.{◌≡◌, ◌≤◌, ◌<◌, ◌-◌, ◌∷◌, true, false, length, take, map, string_bytes, Some, OnOk};
 ghost use Rattle.std.specs.Str.{chars};
-ghost use Rattle.pur_names.specs.Elements.{element_named};
 ghost use Rattle.pur_modules.specs.Contents.{is_empty_element, is_excluded_in};
 ghost use Rattle.pur_settings.specs.Rules.{permits_element};
-ghost use Rattle.pur_tokens.specs.Texts.{text_of};
-ghost use Rattle.pur_tokens.specs.Tokens.{plain_token};
+ghost use Rattle.pur_attrlist.specs.Texts.{text_of};
+ghost use Rattle.pur_tokens.specs.Shown.{plain_shown};
 ghost use Rattle.pur_tree.specs.Nodes.{bare, plain_elem};
 ghost use Rattle.pur_wellform.specs.Search.{level_in, place_of, wrapped};
 ghost use Rattle.pur_text.specs.Characters.{is_blank};
-ghost use Rattle.pur_wellform.specs.Closing.{enter, enter_wrapper, put_at, start_step, put_text, text_step, end_step, without_newest, for_element, step};
-ghost use Rattle.pur_wellform.specs.Standing.{can_be_closed};
-ghost use Rattle.pur_settings.specs.Rules.{permits_name};
+ghost use Rattle.pur_wellform.specs.Closing.{enter, enter_wrapper, put_at, start_step, put_text, text_step, end_step, without_newest, step};
+ghost use Rattle.pur_wellform.specs.Standing.{may_be_closed};
 ghost use Rattle.pur_wellform.specs.Invariants.{Kept};
 ghost use Rattle.pur_wellform.specs.Private.Opens.{names_of, AreOpen, entry_of, found_place};
 ghost use Rattle.pur_wellform.specs.Private.Machines.{IsMachine, Did, state_of, pending_tag, CanWrap};
@@ -20,79 +18,44 @@ use crate::machine::{Machine, Pending, close_inner, close_to, enter, enter_tag, 
 use crate::open_elements::{Open, is_excluded_at, level_inside};
 use crate::reopening::{reopen, reopen_before};
 use crate::search::{Found, Way, find_open, find_place, way_at};
+use pur_attrlist::AttrList;
 use pur_modules::Child;
 use pur_names::Element;
 use pur_settings::Settings;
-use pur_tokens::{AttrList, Tag, Token};
+use pur_tokens::Shown;
 use pur_tree::{LEVEL_LIMIT, is_table, level_fits, level_rise};
 use std::alloc::AllocError;
 use std::collections::VecDeque;
 
-// A token, whose tags name permitted elements and whose text isn't empty. Names are looked up here, once.
-pub(crate) fn put_token(
+// A piece, whose element is permitted and whose text isn't empty.
+pub(crate) fn put_shown(
     machine: &mut Machine,
     settings: &Settings,
-    token: Token,
+    shown: Shown,
 ) -> Result<(), AllocError>
     requires machine { IsMachine settings.now machine.old }
     requires kept { Kept settings.now (state_of machine.old) }
-    requires good { can_be_closed settings.now (plain_token token) ≡ true }
-    ensures { OnOk result (Did settings.now machine.old machine.new (step settings.now (plain_token token) (state_of machine.old))) }
+    requires good { may_be_closed settings.now shown ≡ true }
+    ensures { OnOk result (Did settings.now machine.old machine.new (step settings.now (plain_shown shown) (state_of machine.old))) }
 {
-    match token {
-        Token::Text(text) => {
+    match shown {
+        Shown::Text(text) => {
             put_text(machine, settings, text)?;
             Ok(())
         }
-        Token::Start(tag) => {
-            put_tag(machine, settings, tag, false)?;
+        Shown::Start(tag) => {
+            put_start(machine, settings, tag.element, tag.attrs, false)?;
             Ok(())
         }
-        Token::Empty(tag) => {
-            put_tag(machine, settings, tag, true)?;
+        Shown::Empty(tag) => {
+            put_start(machine, settings, tag.element, tag.attrs, true)?;
             Ok(())
         }
-        Token::End(name) => {
-            put_end_tag(machine, settings, name)?;
+        Shown::End(element) => {
+            put_end(machine, settings, element)?;
             Ok(())
         }
-        Token::Hidden { .. } | Token::Comment(_) => Ok(()),
     }
-}
-
-// A start tag or an empty tag.
-fn put_tag(
-    machine: &mut Machine,
-    settings: &Settings,
-    tag: Tag,
-    at_once: bool,
-) -> Result<(), AllocError>
-    requires machine { IsMachine settings.now machine.old }
-    requires kept { Kept settings.now (state_of machine.old) }
-    requires permitted { permits_name settings.now (text_of tag.name) ≡ true }
-    ensures { OnOk result (Did settings.now machine.old machine.new
-        (for_element (element_named (text_of tag.name)) (λ element. start_step settings.now (plain_elem element tag.attrs) at_once) (state_of machine.old))) }
-{
-    let Tag { name, attrs } = tag;
-    let element = match Element::from_name(name.as_str()) {
-        Some(element) => element,
-        None => return Ok(()),
-    };
-    put_start(machine, settings, element, attrs, at_once)?;
-    Ok(())
-}
-
-// An end tag.
-fn put_end_tag(machine: &mut Machine, settings: &Settings, name: String) -> Result<(), AllocError>
-    requires machine { IsMachine settings.now machine.old }
-    ensures { OnOk result (Did settings.now machine.old machine.new (for_element (element_named (text_of name)) end_step (state_of machine.old))) }
-{
-    let element = match Element::from_name(name.as_str()) {
-        Some(element) => element,
-        None => return Ok(()),
-    };
-    put_end(machine, settings, element)?;
-    Ok(())
 }
 
 // An element that is to be opened: it is dropped where an open one excludes it, and where it has no place.

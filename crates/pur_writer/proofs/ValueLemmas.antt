@@ -10,7 +10,7 @@ use Rattle.std.proofs.lemmas.Grind.{flat_map-append}
 use Rattle.std.proofs.lemmas.Str.{encodes-append, encodes-chars, inside_one}
 use Rattle.std.proofs.lemmas.Option.{same_Some}
 use Rattle.pur_text.specs.Escapes.{escape, escaped}
-use Rattle.pur_tokens.specs.Attributes.{Attribute, names_of, values_of}
+use Rattle.pur_attrlist.specs.Attributes.{Attribute, names_of, values_of}
 use Rattle.pur_tree.specs.Spelling.{escape_in_value, escaped_value, attribute_text, attributes_text}
 use Rattle.pur_writer.specs.Private.Bytes.{is_no_quote}
 use Rattle.pur_laws.proofs.Places.{none_at_all}

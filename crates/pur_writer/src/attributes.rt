@@ -8,7 +8,7 @@ ghost use Rattle.pur_writer.specs.Private.Bytes.{is_no_quote};
 
 use crate::escaping::push_escaped;
 use memchr::memchr;
-use pur_tokens::AttrList;
+use pur_attrlist::AttrList;
 use std::alloc::AllocError;
 
 /// Writes the attributes of a tag in order, each with a space in front.

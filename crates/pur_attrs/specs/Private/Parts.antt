@@ -2,7 +2,7 @@
 use Rattle.std.specs.Prelude.{ℕ, List, [], ◌++◌, map, Option, None, Some, if◌then◌else◌, codes, encode_utf8_all}
 use Rattle.std.specs.Option.{option_and_then, option_map_or}
 use Rattle.pur_names.specs.declared.elements.Element.{Element}
-use Rattle.pur_tokens.specs.Attributes.{Attribute, has_name, value_of, with_new, without}
+use Rattle.pur_attrlist.specs.Attributes.{Attribute, has_name, value_of, with_new, without}
 use Rattle.pur_uri.specs.Uris.{PlainUri, uri_of}
 use Rattle.pur_attrs.specs.Steps.{name_as_id, styled_by, aligned, colored, cells}
 

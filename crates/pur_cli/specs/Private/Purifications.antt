@@ -1,8 +1,9 @@
 -- What the engine promises of a purification, in one word: `run` says each of these.
-use Rattle.std.specs.Prelude.{◌≡◌, ℕ, List}
+use Rattle.std.specs.Prelude.{◌≡◌, ℕ, List, IsTrue}
 use Rattle.pur_settings.specs.Rules.{Rules}
 use Rattle.pur_uripolicy.specs.HostRules.{PlainHostRule}
 use Rattle.pur_validity.specs.Goodness.{IsGood}
+use Rattle.pur_inject.specs.Injected.{injects_nothing}
 use Rattle.pur_engine.specs.Ledger.{AddsNoText, KeepsLedger}
 use Rattle.pur_engine.specs.Purified.{purified}
 use Rattle.pur_engine.specs.Spelled.{IsSpelled}
@@ -14,5 +15,5 @@ pub record IsPurification (rules : Rules) (rule : PlainHostRule) (input text : L
   pub good : IsGood rules rule text
   pub adds_no_text : AddsNoText rules rule input text
   pub ledger : KeepsLedger rules rule input text
-  pub unchanged : IsGood rules rule input → text ≡ input
+  pub unchanged : IsTrue (injects_nothing rules) → IsGood rules rule input → text ≡ input
   pub twice : purified rules rule text ≡ text

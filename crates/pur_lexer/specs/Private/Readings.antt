@@ -1,6 +1,6 @@
 -- What is read so far, and what follows.
 use Rattle.std.specs.Prelude.{ℕ, Option, None, Some, Bool, List, [], ◌∷◌}
-use Rattle.pur_tokens.specs.Attributes.{Attribute, with_new}
+use Rattle.pur_attrlist.specs.Attributes.{Attribute, with_new}
 use Rattle.pur_tokens.specs.Joining.{held_before}
 use Rattle.pur_tokens.specs.Tokens.{PlainToken}
 use Rattle.pur_lexer.specs.Tags.{TagEnd}

@@ -1,7 +1,7 @@
 -- What a property of nodes must allow so that nesting repair keeps it.
 use Rattle.std.specs.Prelude.{List, ℕ, ◌++◌, ◌≡◌, true}
 use Rattle.pur_names.specs.declared.elements.Element.TheVariants.{Caption, P, Table, Tbody, Tfoot, Thead, Tr}
-use Rattle.pur_tokens.specs.Attributes.{Attribute}
+use Rattle.pur_attrlist.specs.Attributes.{Attribute}
 use Rattle.pur_tree.specs.Nodes.{plain_elem, bare, Nodes}
 use Rattle.pur_tree.specs.Properties.{Property, Holds}
 use Rattle.pur_nesting.specs.declared.permits.Permits.{Permits}

@@ -10,7 +10,7 @@ use Rattle.pur_modules.specs.declared.kinds.Content.{Content}
 use Rattle.pur_modules.specs.Contents.{content_held, is_excluded}
 use Rattle.pur_settings.specs.Rules.{Rules, permits_element}
 use Rattle.pur_text.specs.Texts.{text_of}
-use Rattle.pur_tokens.specs.Attributes.{is_same_text}
+use Rattle.pur_attrlist.specs.Attributes.{is_same_text}
 use Rattle.pur_tree.specs.Nodes.{PlainElem, Nodes, no_nodes, text_first, elem_first}
 use Rattle.pur_uripolicy.specs.HostRules.{PlainHostRule}
 use Rattle.pur_validity.specs.Attributes.{has_valid_values, has_required, has_one_language, has_prefix}

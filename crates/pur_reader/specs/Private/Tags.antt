@@ -3,7 +3,7 @@ use Rattle.std.specs.Prelude.{ℕ, ◌≡◌, ◌==◌, ◌||◌, length, Bool, 
 use Rattle.std.specs.List.{list_any}
 use Rattle.std.specs.Str.{bytes_eq}
 use Rattle.pur_names.specs.Elements.{element_name}
-use Rattle.pur_tokens.specs.Attributes.{Attribute}
+use Rattle.pur_attrlist.specs.Attributes.{Attribute}
 use Rattle.pur_tree.specs.Nodes.{PlainElem}
 use Rattle.pur_tree.specs.Spelling.{attributes_text, are_spellable}
 

@@ -2,7 +2,7 @@
 use Rattle.std.proofs.Common.{◌∙◌, ap, sym, refl, codes}
 use Rattle.std.specs.Str.{chars}
 use Rattle.pur_laws.proofs.Texts.{chars_ascii}
-use Rattle.pur_tokens.specs.Attributes.{with_value}
+use Rattle.pur_attrlist.specs.Attributes.{with_value}
 use Rattle.pur_attrs.specs.Steps.{with_language}
 use Rattle.pur_attrs.proofs.CompletingLemmas.{text_behind, found-told}
 use Rattle.pur_attrs.proofs.completing.put_language.Goals as goal

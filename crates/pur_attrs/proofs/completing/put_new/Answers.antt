@@ -2,7 +2,7 @@
 use Rattle.std.proofs.Common.{◌≡◌, ◌∙◌, ◌++◌, ◌∷◌, [], true, sym}
 use Rattle.std.specs.Str.{chars}
 use Rattle.std.proofs.lemmas.Bool.{cond-true}
-use Rattle.pur_tokens.specs.Attributes.{has_name}
+use Rattle.pur_attrlist.specs.Attributes.{has_name}
 use Rattle.pur_attrs.proofs.KeepingLemmas.{found-named}
 use Rattle.pur_attrs.proofs.completing.put_new.Goals as goal
 

@@ -2,7 +2,7 @@
 use Rattle.std.proofs.Common.{◌∙◌, [], ap, refl, codes}
 use Rattle.std.specs.Option.{option_map_or}
 use Rattle.pur_laws.proofs.Texts.{chars_ascii}
-use Rattle.pur_tokens.specs.Attributes.{with_new}
+use Rattle.pur_attrlist.specs.Attributes.{with_new}
 use Rattle.pur_attrs.specs.Steps.{last_segment}
 use Rattle.pur_attrs.proofs.completing.put_required.Goals as goal
 

@@ -2,7 +2,7 @@
 use Rattle.std.proofs.Common.{◌≡◌, ◌∙◌, true, false, ap, sym, refl, codes}
 use Rattle.std.specs.Str.{chars}
 use Rattle.pur_laws.proofs.Texts.{chars_ascii}
-use Rattle.pur_tokens.specs.Texts.{text_of}
+use Rattle.pur_attrlist.specs.Texts.{text_of}
 use Rattle.pur_attrs.specs.Private.Along.{seen_in}
 use Rattle.pur_attrs.proofs.IdLemmas.{seen-bytes, seen-more, none-left, none-seen, again-left, again-seen, first-left, first-seen}
 use Rattle.pur_attrs.proofs.ids.keep_first_id.Goals as goal

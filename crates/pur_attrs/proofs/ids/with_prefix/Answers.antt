@@ -3,8 +3,8 @@ use Rattle.std.proofs.Common.{◌≡◌, ◌∙◌, ◌++◌, true, false, ap, s
 use Rattle.std.specs.Str.{chars}
 use Rattle.std.proofs.lemmas.Bool.{cond-true, cond-false}
 use Rattle.std.proofs.lemmas.Result.{IfOk-weaker}
-use Rattle.pur_tokens.specs.Texts.{text_of}
-use Rattle.pur_tokens.proofs.TextLaws.{pushed}
+use Rattle.pur_attrlist.specs.Texts.{text_of}
+use Rattle.pur_attrlist.proofs.TextLaws.{pushed}
 use Rattle.pur_validity.specs.Attributes.{has_prefix}
 use Rattle.pur_attrs.specs.Ids.{with_prefix}
 use Rattle.pur_attrs.proofs.IdLemmas.{begins-alike}

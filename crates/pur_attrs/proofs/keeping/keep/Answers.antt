@@ -1,9 +1,9 @@
 -- What the value is read as is put behind the attributes that are kept.
 use Rattle.std.proofs.Common.{◌≡◌, ◌∙◌, Option, Some, None, IfSome, ap, sym, subst}
 use Rattle.std.specs.Option.{option_map}
-use Rattle.pur_tokens.specs.Attributes.{Attribute}
-use Rattle.pur_tokens.specs.Pairs.{attribute_of}
-use Rattle.pur_tokens.specs.Texts.{text_of}
+use Rattle.pur_attrlist.specs.Attributes.{Attribute}
+use Rattle.pur_attrlist.specs.Pairs.{attribute_of}
+use Rattle.pur_attrlist.specs.Texts.{text_of}
 use Rattle.pur_validity.specs.Attributes.{source_in}
 use Rattle.pur_attrs.specs.Steps.{kept_attribute}
 use Rattle.pur_attrs.specs.Private.Parts.{with_one}

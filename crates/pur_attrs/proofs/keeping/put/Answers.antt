@@ -2,8 +2,8 @@
 use Rattle.std.proofs.Common.{◌≡◌, ◌∙◌, not, ap, sym}
 use Rattle.std.specs.Option.{option_or}
 use Rattle.std.proofs.lemmas.Bool.{not-true, not-false}
-use Rattle.pur_tokens.specs.Attributes.{has_name}
-use Rattle.pur_tokens.specs.Texts.{text_of}
+use Rattle.pur_attrlist.specs.Attributes.{has_name}
+use Rattle.pur_attrlist.specs.Texts.{text_of}
 use Rattle.pur_attrs.specs.Private.Parts.{source_of}
 use Rattle.pur_attrs.proofs.SourceLemmas.{source-more, source-same}
 use Rattle.pur_attrs.proofs.keeping.put.Goals as goal

@@ -1,7 +1,7 @@
 use Rattle.std.proofs.Common.{◌≡◌, map}
 use Rattle.std.specs.List.{filter_map}
 use Rattle.std.specs.Vec.Iter.{into_iter_items}
-use Rattle.pur_tokens.specs.Pairs.{attribute_of}
+use Rattle.pur_attrlist.specs.Pairs.{attribute_of}
 use Rattle.pur_attrs.specs.Steps.{kept_attribute}
 use Rattle.pur_attrs.specs.Private.Parts.{source_of}
 use Rattle.pur_attrs.proofs.KeepingLemmas.{put_all}

@@ -4,10 +4,10 @@ use Rattle.std.specs.Str.{bytes_eq, chars}
 use Rattle.std.proofs.lemmas.Bool.{not-true, not-false}
 use Rattle.std.proofs.lemmas.Str.{IsUtf8-string_bytes}
 use Rattle.pur_laws.proofs.Texts.{bytes_eq-ascii, chars_ascii}
-use Rattle.pur_tokens.specs.Attributes.{is_same_text}
-use Rattle.pur_tokens.specs.Pairs.{attribute_of}
-use Rattle.pur_tokens.specs.Texts.{text_of}
-use Rattle.pur_tokens.proofs.TextLaws.{is_same_text-sym}
+use Rattle.pur_attrlist.specs.Attributes.{is_same_text}
+use Rattle.pur_attrlist.specs.Pairs.{attribute_of}
+use Rattle.pur_attrlist.specs.Texts.{text_of}
+use Rattle.pur_attrlist.proofs.TextLaws.{is_same_text-sym}
 use Rattle.pur_attrs.proofs.KeepingLemmas.{as_id-other, as_id-name}
 use Rattle.pur_attrs.proofs.names.as_id.Goals as goal
 

@@ -3,8 +3,8 @@ use Rattle.std.proofs.Common.{◌≡◌, ◌∙◌, [], true, false, map, ap, sy
 use Rattle.std.specs.Vec.Iter.{into_iter_items}
 use Rattle.std.proofs.lemmas.Bool.{cond-true, cond-false}
 use Rattle.pur_laws.proofs.Texts.{chars_ascii}
-use Rattle.pur_tokens.specs.Attributes.{has_name, without}
-use Rattle.pur_tokens.specs.Pairs.{attribute_of}
+use Rattle.pur_attrlist.specs.Attributes.{has_name, without}
+use Rattle.pur_attrlist.specs.Pairs.{attribute_of}
 use Rattle.pur_attrs.specs.Steps.{name_as_id}
 use Rattle.pur_attrs.proofs.KeepingLemmas.{put_all, put-distinct, no-name, distinct-as_id, found-named, none-left}
 use Rattle.pur_attrs.proofs.names.named_by_id.Goals as goal

@@ -2,8 +2,8 @@
 use Rattle.std.proofs.Common.{◌++◌, sym, refl, codes}
 use Rattle.std.proofs.lemmas.Result.{IfOk-equal}
 use Rattle.pur_laws.proofs.Texts.{chars_ascii}
-use Rattle.pur_tokens.specs.Attributes.{value_of}
-use Rattle.pur_tokens.specs.Texts.{text_of}
+use Rattle.pur_attrlist.specs.Attributes.{value_of}
+use Rattle.pur_attrlist.specs.Texts.{text_of}
 use Rattle.pur_attrs.specs.Private.Parts.{declared}
 use Rattle.pur_attrs.specs.Steps.{colored}
 use Rattle.pur_attrs.proofs.StrictLemmas.{is-styled}

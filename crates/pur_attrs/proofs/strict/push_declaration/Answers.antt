@@ -2,8 +2,8 @@
 use Rattle.std.proofs.Common.{◌++◌, ◌∙◌, ap, refl, codes}
 use Rattle.std.specs.Str.{chars}
 use Rattle.pur_laws.proofs.Texts.{chars_ascii}
-use Rattle.pur_tokens.specs.Texts.{text_of}
-use Rattle.pur_tokens.proofs.TextLaws.{pushed}
+use Rattle.pur_attrlist.specs.Texts.{text_of}
+use Rattle.pur_attrlist.proofs.TextLaws.{pushed}
 use Rattle.pur_attrs.proofs.StrictLemmas.{written}
 use Rattle.pur_attrs.proofs.strict.push_declaration.Goals as goal
 

@@ -2,9 +2,9 @@
 use Rattle.std.proofs.Common.{[], ◌++◌, ◌∙◌, ap, sym, refl, codes}
 use Rattle.std.specs.Option.{option_map_or}
 use Rattle.pur_laws.proofs.Texts.{chars_ascii}
-use Rattle.pur_tokens.specs.Attributes.{value_of}
-use Rattle.pur_tokens.specs.Texts.{text_of}
-use Rattle.pur_tokens.proofs.TextLaws.{pushed}
+use Rattle.pur_attrlist.specs.Attributes.{value_of}
+use Rattle.pur_attrlist.specs.Texts.{text_of}
+use Rattle.pur_attrlist.proofs.TextLaws.{pushed}
 use Rattle.pur_attrs.specs.Steps.{cells}
 use Rattle.pur_attrs.proofs.StrictLemmas.{is-styled, none-styled}
 use Rattle.pur_attrs.proofs.strict.push_nowrap.Goals as goal

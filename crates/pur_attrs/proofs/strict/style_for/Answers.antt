@@ -2,7 +2,7 @@
 use Rattle.std.proofs.Common.{◌∙◌, ap}
 use Rattle.std.specs.Str.{chars}
 use Rattle.std.proofs.lemmas.Str.{chars-nil}
-use Rattle.pur_tokens.specs.Texts.{text_of}
+use Rattle.pur_attrlist.specs.Texts.{text_of}
 use Rattle.pur_attrs.specs.Private.Parts.{align_style, color_style, nowrap_style}
 use Rattle.pur_attrs.proofs.StrictLemmas.{three-parts}
 use Rattle.pur_attrs.proofs.strict.style_for.Goals as goal

@@ -1,19 +1,10 @@
--- Each pass leaves what is good as it is.
-use Rattle.std.proofs.Common.{◌≡◌, ap, ◌∙◌}
-use Rattle.pur_foreign.specs.Removal.{without_foreign}
-use Rattle.pur_tree.specs.Tokens.{tokens_of_nodes, tree_of}
-use Rattle.pur_wellform.specs.Closing.{closed}
-use Rattle.pur_nesting.specs.Nesting.{nested, permits_of}
+use Rattle.std.proofs.Common.{ap, ◌∙◌}
+use Rattle.pur_inject.specs.Injected.{injected}
 use Rattle.pur_attrs.specs.Attributes.{with_valid_attributes}
-use Rattle.pur_engine.specs.Purified.{closed_tags, closed_tree, nested_tree}
 use Rattle.pur_engine.proofs.laws.good_stays.Goals as goal
 
 pub returns : goal.returns
-returns c rules rule nodes text spells valid =
-    let closing = c.closing_leaves_good.ensures rules rule nodes text spells valid in
-    let tags : closed_tags rules rule text ≡ tokens_of_nodes nodes =
-    ap (λ ts. closed rules (without_foreign rules rule ts)) (c.spelled_is_read.ensures nodes text spells)
-    ∙ ap (closed rules) (c.removal_leaves_good.ensures rules rule nodes text spells valid) ∙ closing.0 in
-    let tree : closed_tree rules rule text ≡ nodes = ap tree_of tags ∙ closing.1 in
-    let repaired : nested_tree rules rule text ≡ nodes = ap (nested (permits_of rules)) tree ∙ c.nesting_leaves_good.ensures rules rule nodes text spells valid in
-    ap (with_valid_attributes rules rule) repaired ∙ c.attributes_leave_good.ensures rules rule nodes text spells valid
+returns c rules rule nodes text spells valid off =
+    ap (λ n. with_valid_attributes rules rule (injected rules rule n)) (c.good_reaches_injectors.ensures rules rule nodes text spells valid)
+    ∙ ap (with_valid_attributes rules rule) (c.injects_nothing.ensures rules rule nodes off)
+    ∙ c.attributes_leave_good.ensures rules rule nodes text spells valid

@@ -7,6 +7,8 @@ use Rattle.pur_tree.specs.Nodes.{Nodes}
 use Rattle.pur_tree.specs.Spelling.{spelling_of}
 use Rattle.pur_tree.specs.Tokens.{IsTreeOf}
 use Rattle.pur_nesting.specs.Nesting.{nested, permits_of}
+use Rattle.pur_inject.specs.Links.{with_links}
+use Rattle.pur_inject.specs.Paragraphs.{with_paragraphs}
 use Rattle.pur_attrs.specs.Attributes.{with_valid_attributes}
 use Rattle.pur_validity.specs.Goodness.{IsGood}
 use Rattle.pur_engine.specs.Ledger.{AddsNoText, KeepsLedger}
@@ -26,7 +28,9 @@ returns g c =
     let built : IsTreeOf before (closed_tags rules rule text) = rw (c.as_str.ensures.value, c.in_ok-text.ensures) at c.in_ok-forest.ensures.tree in
     let tree : before ≡ closed_tree rules rule text = sound-tree_of before (closed_tags rules rule text) c.in_ok-forest.ensures.forest.sound built in
     let is : after ≡ purified_nodes rules rule text =
-    c.in_ok-validate.ensures.ok ∙ ap (with_valid_attributes rules rule) (c.in_ok-fix_nesting.ensures.nested ∙ ap (nested (permits_of rules)) tree) in
+    c.in_ok-validate.ensures.ok
+    ∙ ap (with_valid_attributes rules rule) (c.in_ok-auto_paragraph.ensures.ok ∙ ap (with_paragraphs rules) (c.in_ok-linkify.ensures.ok
+    ∙ ap (with_links rules rule) (c.in_ok-fix_nesting.ensures.nested ∙ ap (nested (permits_of rules)) tree))) in
     let begins : begins_an_id rules.id_prefix ≡ true = prefix_begins rules.id_prefix c.id_prefix.ensures.form in
     let kind = c.parent.ensures.kind in
     let out = c.in_ok-output.output.items in
@@ -39,6 +43,6 @@ returns g c =
       good = good;
       adds_no_text = told (AddsNoText rules rule input) (c.purified_adds_no_text.ensures rules kind begins rule input);
       ledger = told (KeepsLedger rules rule input) (c.purified_keeps_ledger.ensures rules kind begins rule input);
-      unchanged = λ was_good. whole ∙ c.good_is_kept.ensures rules rule input was_good;
-      twice = c.good_is_kept.ensures rules rule out good;
+      unchanged = λ off was_good. whole ∙ c.good_is_kept.ensures rules rule input off was_good;
+      twice = ap (purified rules rule) whole ∙ c.purified_once.ensures rules kind begins rule input ∙ sym whole;
     }

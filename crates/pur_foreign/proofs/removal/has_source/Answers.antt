@@ -4,7 +4,7 @@ use Rattle.std.specs.Prelude.{is_some}
 use Rattle.std.specs.Option.{option_and_then, option_map}
 use Rattle.std.specs.Str.{chars}
 use Rattle.pur_laws.proofs.Texts.{chars_ascii}
-use Rattle.pur_tokens.specs.Attributes.{value_of}
+use Rattle.pur_attrlist.specs.Attributes.{value_of}
 use Rattle.pur_uripolicy.specs.Admissible.{uri_under}
 use Rattle.pur_uripolicy.specs.declared.uses.UriUse.TheVariants.{Embed}
 use Rattle.pur_foreign.proofs.removal.has_source.Goals as goal

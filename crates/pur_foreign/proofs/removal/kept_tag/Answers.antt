@@ -4,7 +4,7 @@ use Rattle.std.specs.Str.{chars}
 use Rattle.pur_modules.proofs.NameLaws.{element_named-chars}
 use Rattle.pur_names.specs.Elements.{element_name, element_named}
 use Rattle.pur_settings.specs.Rules.{permits_element}
-use Rattle.pur_tokens.specs.Texts.{text_of}
+use Rattle.pur_attrlist.specs.Texts.{text_of}
 use Rattle.pur_foreign.specs.Removal.{element_in, attributes_in, is_admitted, tag_image}
 use Rattle.pur_foreign.proofs.RemovalLemmas.{tag-goes, tag-unadmitted, tag-stays}
 use Rattle.pur_foreign.proofs.removal.kept_tag.Goals as goal
@@ -56,5 +56,5 @@ returns g c = λ make.
     ∙ ap (is_admitted rules rule c.element_in-kept.result) (sym changed)
     ∙ sym c.in_ok-admitted.ensures
     ∙ c.if-not-admitted.false in
-    tag-stays rules rule make e c.args.tag.attrs c.in_ok-attrs.attrs (text_of c.in_ok-name.name) permitted admitted (c.in_ok-name.ensures ∙ ap element_name kept) changed
+    tag-stays rules rule make e c.args.tag.attrs c.in_ok-attrs.attrs (element_name c.element_in-kept.result) permitted admitted (ap element_name kept) changed
     ∙ ap (λ found. tag_image rules rule make found c.args.tag.attrs) found

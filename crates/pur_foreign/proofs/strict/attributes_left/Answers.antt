@@ -1,7 +1,7 @@
 -- The three attributes of a font go.
 use Rattle.std.proofs.Common.{◌∙◌, ap, refl, codes}
 use Rattle.pur_laws.proofs.Texts.{chars_ascii}
-use Rattle.pur_tokens.specs.Attributes.{without}
+use Rattle.pur_attrlist.specs.Attributes.{without}
 use Rattle.pur_foreign.proofs.strict.attributes_left.Goals as goal
 
 pub returns-in-Font : goal.returns-in-Font

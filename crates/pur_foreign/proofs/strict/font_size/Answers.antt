@@ -2,7 +2,7 @@
 use Rattle.std.proofs.Common.{◌≡◌, List, ℕ, Bor, Some, ap, sym, ◌∙◌, refl, codes}
 use Rattle.std.specs.Str.{chars}
 use Rattle.pur_laws.proofs.Texts.{chars_ascii}
-use Rattle.pur_tokens.specs.Attributes.{value_of}
+use Rattle.pur_attrlist.specs.Attributes.{value_of}
 use Rattle.pur_foreign.specs.Strict.{size_named, size_of}
 use Rattle.pur_foreign.proofs.StrictLemmas.{size-chars, plain-answer}
 use Rattle.pur_foreign.proofs.strict.font_size.Goals as goal

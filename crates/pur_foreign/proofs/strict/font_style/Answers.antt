@@ -3,8 +3,8 @@ use Rattle.std.proofs.Common.{◌∙◌, ap, refl, codes}
 use Rattle.std.specs.Str.{chars}
 use Rattle.std.proofs.lemmas.Str.{chars-nil}
 use Rattle.pur_laws.proofs.Texts.{chars_ascii}
-use Rattle.pur_tokens.specs.Attributes.{value_of}
-use Rattle.pur_tokens.specs.Texts.{text_of}
+use Rattle.pur_attrlist.specs.Attributes.{value_of}
+use Rattle.pur_attrlist.specs.Texts.{text_of}
 use Rattle.pur_foreign.specs.Strict.{declaration, size_of}
 use Rattle.pur_foreign.proofs.StrictLemmas.{three-parts}
 use Rattle.pur_foreign.proofs.strict.font_style.Goals as goal

@@ -2,7 +2,7 @@ use Rattle.std.proofs.Common.{◌≡◌, List, ℕ, refl, sym, ap, ◌∙◌, ru
 use Rattle.std.specs.Str.{chars}
 use Rattle.pur_laws.proofs.Texts.{chars_ascii}
 use Rattle.pur_names.specs.declared.elements.Element.TheVariants.{A}
-use Rattle.pur_tokens.specs.Attributes.{with_value}
+use Rattle.pur_attrlist.specs.Attributes.{with_value}
 use Rattle.pur_tree.specs.Image.{nodes_of}
 use Rattle.pur_tree.specs.Nodes.{no_nodes, nodes_append, text_first, plain_elem}
 use Rattle.pur_tree.proofs.NodesLemmas.{nodes_append-none}

@@ -3,7 +3,7 @@ use Rattle.std.proofs.Common.{◌≡◌, ◌∙◌, sym, ap, true≢false, lengt
 use Rattle.std.specs.Prelude.{◌==◌}
 use Rattle.std.specs.Str.{chars}
 use Rattle.std.proofs.lemmas.Bool.{eqb-true}
-use Rattle.pur_tokens.specs.Texts.{text_of}
+use Rattle.pur_attrlist.specs.Texts.{text_of}
 use Rattle.pur_lexer.specs.Tags.{ReadAttributes}
 use Rattle.pur_lexer.specs.Private.Readings.{with_all_new}
 use Rattle.pur_lexer.proofs.TagLemmas.{attribute_at-none, none_new, named_here}

@@ -2,8 +2,8 @@
 use Rattle.std.proofs.Common.{◌≡◌, ◌∙◌, sym, ap, Some, None, lit<}
 use Rattle.std.specs.Str.{chars}
 use Rattle.std.proofs.lemmas.Str.Pattern.{strip_prefix_char}
-use Rattle.pur_tokens.specs.Texts.{text_of}
-use Rattle.pur_tokens.specs.Attributes.{with_new}
+use Rattle.pur_attrlist.specs.Texts.{text_of}
+use Rattle.pur_attrlist.specs.Attributes.{with_new}
 use Rattle.pur_entities.specs.References.{decoded}
 use Rattle.pur_lexer.specs.Tags.{ReadAttributes, raw_value, with_raw_value, attribute_behind}
 use Rattle.pur_lexer.specs.Private.Readings.{with_all_new}

@@ -1,6 +1,6 @@
 use Rattle.std.proofs.Common.{◌∙◌, [], ap, lit<, codes, refl}
 use Rattle.std.specs.Str.{chars}
-use Rattle.pur_tokens.specs.Texts.{text_of}
+use Rattle.pur_attrlist.specs.Texts.{text_of}
 use Rattle.pur_tokens.specs.Tokens.{text_token}
 use Rattle.pur_lexer.proofs.ConstructLemmas.{through-found, through-missed, nothing_left}
 use Rattle.pur_lexer.proofs.constructs.cut_character_data.Goals as goal

@@ -1,7 +1,7 @@
 use Rattle.std.proofs.Common.{◌∙◌, sym, ap, string_bytes}
 use Rattle.std.specs.Str.{chars}
 use Rattle.std.proofs.lemmas.Str.{IsUtf8-string_bytes}
-use Rattle.pur_tokens.specs.Texts.{text_of}
+use Rattle.pur_attrlist.specs.Texts.{text_of}
 use Rattle.pur_lexer.proofs.ConstructLemmas.{hiding_mark, hiding_same, hidden-read}
 use Rattle.pur_lexer.proofs.constructs.cut_hidden.Goals as goal
 use Rattle.std.proofs.Common.{subst}

@@ -1,7 +1,7 @@
 -- By the name and the end of the tag.
 use Rattle.std.proofs.Common.{◌≡◌, ◌∙◌, [], sym, ap, Some, None, refl, option_map}
 use Rattle.std.specs.Str.{chars}
-use Rattle.pur_tokens.specs.Texts.{text_of}
+use Rattle.pur_attrlist.specs.Texts.{text_of}
 use Rattle.pur_lexer.specs.Tags.{tag_end}
 use Rattle.pur_lexer.specs.Constructs.{is_hiding}
 use Rattle.pur_lexer.specs.Private.Readings.{tag_end_with}

@@ -3,7 +3,7 @@ use Rattle.std.specs.Str.{chars}
 use Rattle.std.proofs.lemmas.Bool.{not-true, not-false}
 use Rattle.pur_laws.proofs.Cases.{empty-chars}
 use Rattle.pur_text.specs.Texts.{text_of}
-use Rattle.pur_tokens.specs.Attributes.{Attribute, has_name}
+use Rattle.pur_attrlist.specs.Attributes.{Attribute, has_name}
 use Rattle.pur_tree.specs.Spelling.{attributes_text, attribute_text, are_spellable, is_spellable_attribute}
 use Rattle.pur_reader.specs.Private.Tags.{IsTagRest, is_end, end_text}
 use Rattle.pur_reader.proofs.OptionLemmas.{from_some, from_none}

@@ -3,7 +3,7 @@ use Rattle.std.specs.Prelude.{◌&&◌}
 use Rattle.std.specs.List.{list_any}
 use Rattle.std.specs.Str.{chars}
 use Rattle.pur_laws.proofs.Texts.{chars_ascii}
-use Rattle.pur_tokens.specs.Attributes.{is_same_text}
+use Rattle.pur_attrlist.specs.Attributes.{is_same_text}
 use Rattle.pur_text.specs.Texts.{text_of}
 use Rattle.pur_tree.specs.Image.{nodes_of}
 use Rattle.pur_validity.specs.Attributes.{ids_of}

@@ -1,6 +1,6 @@
 use Rattle.std.proofs.Common.{◌∙◌, ap, sym}
 use Rattle.pur_names.specs.Attributes.{attr_name}
-use Rattle.pur_tokens.specs.Attributes.{value_of}
+use Rattle.pur_attrlist.specs.Attributes.{value_of}
 use Rattle.pur_reader.proofs.ValueLemmas.{told, untold, attr_text}
 use Rattle.pur_reader.proofs.values.has_name.Goals as goal
 

@@ -2,7 +2,7 @@
 use Rattle.std.proofs.Common.{◌≡◌, drop}
 use Rattle.std.specs.List.{list_all}
 use Rattle.pur_names.specs.Attributes.{attr_name}
-use Rattle.pur_tokens.specs.Attributes.{has_name}
+use Rattle.pur_attrlist.specs.Attributes.{has_name}
 use Rattle.pur_reader.proofs.values.has_required.Given as goal
 
 abbrev pub invariant-loop-attr : goal.invariant-loop-attr

@@ -2,7 +2,7 @@ use Rattle.std.proofs.Common.{◌≡◌, ◌∙◌, ◌+◌, ap, sym, arith, suc
 use Rattle.std.specs.Prelude.{◌&&◌}
 use Rattle.std.specs.List.{list_all}
 use Rattle.std.specs.Str.{chars}
-use Rattle.pur_tokens.specs.Attributes.{Attribute}
+use Rattle.pur_attrlist.specs.Attributes.{Attribute}
 use Rattle.pur_validity.specs.Attributes.{is_valid_attribute}
 use Rattle.pur_reader.proofs.ValueLemmas.{attribute_at}
 use Rattle.pur_reader.proofs.values.has_valid_values.Goals as goal

@@ -1,7 +1,7 @@
 use Rattle.std.proofs.Common.{◌∙◌, ap, false}
 use Rattle.std.specs.Option.{option_map_or}
 use Rattle.std.specs.Str.{chars}
-use Rattle.pur_tokens.specs.Attributes.{is_same_text}
+use Rattle.pur_attrlist.specs.Attributes.{is_same_text}
 use Rattle.pur_reader.proofs.ValueLemmas.{valid-read}
 use Rattle.pur_reader.proofs.values.is_valid_attribute.Goals as goal
 

@@ -1,5 +1,5 @@
 use Rattle.std.proofs.Common.{refl}
-use Rattle.pur_tokens.specs.Texts.{text_of}
+use Rattle.pur_attrlist.specs.Texts.{text_of}
 use Rattle.pur_wellform.proofs.MachineFacts.{holds, did-text}
 use Rattle.pur_wellform.proofs.machine.write_text.Goals as goal
 

@@ -5,7 +5,7 @@ use Rattle.pur_wellform.specs.Private.Opens.{names_of}
 use Rattle.pur_wellform.specs.Private.Machines.{pending_tag}
 use Rattle.pur_wellform.proofs.TableFacts.{right_of, formatting_is_full}
 use Rattle.pur_wellform.proofs.RunFacts.{may_open_again}
-use Rattle.pur_wellform.proofs.TurnFacts.{did-stays}
+use Rattle.pur_wellform.proofs.TurnFacts.{did-stays, kept_whole}
 use Rattle.pur_wellform.proofs.reopening.give_turn.Goals as goal
 
 pub returns-then-not-fits_again : goal.returns-then-not-fits_again
@@ -21,3 +21,7 @@ enter-requires-clause-low c =
 pub enter-requires-clause-full : goal.enter-requires-clause-full
 enter-requires-clause-full c =
     formatting_is_full c.args.first.name (right_of (permits_element c.args.settings.now c.args.first.name) (is_formatting c.args.first.name) c.requires.pendable)
+
+pub enter-requires-clause-carried : goal.enter-requires-clause-carried
+enter-requires-clause-carried c =
+    kept_whole c.args.settings.now c.args.first.name c.args.first.attrs c.in_ok-written-in-Some.written c.requires.pendable c.in_ok-written-in-Some.ensures

@@ -1,0 +1,5 @@
+pub mod Texts
+pub mod Attributes
+pub mod Pairs
+pub mod Styles
+pub mod Private
