@@ -1,0 +1,5 @@
+mod DotLemmas
+mod PieceLemmas
+mod WalkLemmas
+mod ResolvingLemmas
+mod HostLemmas

@@ -1,0 +1,4 @@
+pub mod Bases
+pub mod Dots
+pub mod Resolving
+pub mod Private

@@ -1,0 +1,2 @@
+-- Definitions that serve private contracts alone: no public contract says anything by them.
+pub mod Segments

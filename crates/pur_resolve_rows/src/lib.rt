@@ -1,0 +1,8 @@
+//! Rows of resolving: the bases that texts name, and what references mean there. There is nothing here but tests; they stand in
+//! a crate of their own, so that the crate that they try isn't proved twice for them.
+#![tactic(auto)]
+
+#[cfg(test)]
+mod bases;
+#[cfg(test)]
+mod references;
