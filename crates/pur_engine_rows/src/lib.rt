@@ -7,6 +7,8 @@ mod endings;
 #[cfg(test)]
 mod engine;
 #[cfg(test)]
+mod floods;
+#[cfg(test)]
 mod injectors;
 #[cfg(test)]
 mod losses;
