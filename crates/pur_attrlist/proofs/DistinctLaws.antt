@@ -1,8 +1,8 @@
 -- What keeps the names of a list of attributes distinct.
-use Rattle.std.proofs.Common.{◌≡◌, ℕ, Bool, true, false, not, ◌||◌, cond, List, [], ◌∷◌, ◌++◌, refl, sym, ap, ◌∙◌}
+use Rattle.std.proofs.Common.{◌≡◌, ℕ, Bool, true, false, not, ◌||◌, cond, List, [], ◌∷◌, ◌++◌, refl, ap, ◌∙◌}
 use Rattle.std.proofs.lemmas.Bool.{and_from}
-use Rattle.pur_attrlist.specs.Attributes.{Attribute, is_same_text, names_of, has_name, is_distinct, value_of, with_value, with_new, without, first_of_names}
-use Rattle.pur_attrlist.specs.Styles.{with_style, text_or_none}
+use Rattle.pur_attrlist.specs.Attributes.{Attribute, is_same_text, names_of, has_name, is_distinct, with_value, with_new, first_of_names}
+use Rattle.pur_attrlist.specs.Styles.{with_style}
 use Rattle.pur_attrlist.proofs.AttributeLaws.{none_and_all, has_name-without_same, is_distinct-push, is_distinct-names, is_distinct-without}
 use Rattle.pur_attrlist.proofs.TextLaws.{same_text, is_same_text-sym}
 

@@ -1,21 +1,18 @@
 -- An index of names keeps up with the list of the names.
-use Rattle.std.proofs.Common.{◌≡◌, ℕ, zero, suc, ◌<◌, Bool, true, false, cond, if◌then◌else◌, List, [], ◌∷◌, ◌++◌, length, get_or, remove, slice_get, map, Option, Some, None, String, string_bytes, refl, sym, ap, ◌∙◌, arith}
-use Rattle.std.specs.Str.{bytes_eq}
+use Rattle.std.proofs.Common.{◌≡◌, ℕ, zero, suc, Bool, true, false, cond, if◌then◌else◌, List, [], ◌∷◌, ◌++◌, length, remove, slice_get, Option, Some, None, String, refl, sym, ap, ◌∙◌, arith}
+use Rattle.std.specs.Str.{chars, bytes_eq, IsUtf8}
 use Rattle.std.specs.Option.{option_map}
 use Rattle.std.proofs.lemmas.Grind.{common_steps}
 use Rattle.std.specs.BTreeMap.{BTreeMap, get_by_text}
 use Rattle.std.specs.declared.alloc.Global.{Global}
 use Rattle.std.proofs.lemmas.List.{length-map, map-append}
-use Rattle.std.proofs.lemmas.Str.{IsUtf8-string_bytes}
-use Rattle.pur_attrlist.specs.Texts.{text_of}
-use Rattle.pur_attrlist.specs.Attributes.{names_of, has_name, is_distinct}
+use Rattle.pur_laws.proofs.Texts.{bytes_eq-chars}
+use Rattle.pur_attrlist.specs.Attributes.{Attribute, names_of, has_name, is_distinct}
 use Rattle.pur_attrlist.specs.Private.Places.{place_of, moved_down}
-use Rattle.pur_attrlist.specs.Pairs.{attribute_of}
-use Rattle.pur_attrlist.specs.Private.Index.{stored_names, IsIndexOf}
-use Rattle.pur_attrlist.specs.declared.stored_pair.Pair.{Pair}
+use Rattle.pur_attrlist.specs.Private.Index.{IsIndexOf}
 use Rattle.pur_attrlist.proofs.TextLaws.{same_text, is_same_text-sym}
 use Rattle.pur_attrlist.proofs.AttributeLaws.{has_name-removed}
-use Rattle.pur_attrlist.proofs.StorageLaws.{pairs-told, stored_names-told, place_of-absent, map-remove}
+use Rattle.pur_attrlist.proofs.StorageLaws.{place_of-absent, map-remove}
 
 none_parts : (b : Bool) (r : Option ℕ) → (if b then Some 0 else option_map suc r) ≡ None → (b ≡ false) × (r ≡ None)
 none_parts true r e = cc
@@ -79,40 +76,35 @@ place_of-remove names gone name text e nowhere = by (bytes_eq name text) refl
     by false same = other_moves names gone name text e (is_same_text-sym text name ∙ same)
 
 -- the index after a pair with a new name
-pub IsIndexOf-put : (old new : BTreeMap (String Global) ℕ) (pairs : List Pair) (pair : Pair) (key : List ℕ) (place : ℕ) → IsIndexOf old (stored_names pairs)
-    → ((text : List ℕ) → get_by_text new text ≡ cond (bytes_eq key text) (Some place) (get_by_text old text)) → key ≡ string_bytes pair.name → place ≡ length pairs
-    → has_name (map attribute_of pairs) (text_of pair.name) ≡ false → IsIndexOf new (stored_names (pairs ++ pair ∷ []))
-IsIndexOf-put old new pairs pair key place index updated same_key at_end is_new =
-    let name = string_bytes pair.name in
-    let names = stored_names pairs in
-    let nowhere : place_of names name ≡ None = place_of-absent name (IsUtf8-string_bytes pair.name) pairs is_new in
-    let end : place ≡ length names = at_end ∙ sym (length-map pairs (λ (pair : Pair). string_bytes pair.name)) in
+pub IsIndexOf-put : (old new : BTreeMap (String Global) ℕ) (pairs : List Attribute) (name value key : List ℕ) (place : ℕ) → IsIndexOf old pairs → IsUtf8 key
+    → ((text : List ℕ) → get_by_text new text ≡ cond (bytes_eq key text) (Some place) (get_by_text old text)) → chars key ≡ name → place ≡ length pairs
+    → has_name pairs name ≡ false → IsIndexOf new (pairs ++ (name, value) ∷ [])
+IsIndexOf-put old new pairs name value key place index valid updated same_key at_end is_new =
+    let names = names_of pairs in
+    let nowhere : place_of names name ≡ None = place_of-absent name pairs is_new in
+    let end : place ≡ length names = at_end ∙ sym (length-map pairs (λ (pair : Attribute). pair.0)) in
     record {
-      finds = λ text.
-          rw (map-append (λ (pair : Pair). string_bytes pair.name) pairs (pair ∷ []))
-          (updated text ∙ rw (same_key, end, index.finds text) (sym (place_of-push names name text nowhere)));
+      finds = λ text utf8.
+          rw (map-append (λ (pair : Attribute). pair.0) pairs ((name, value) ∷ []))
+          (updated text
+          ∙ rw (bytes_eq-chars key text valid utf8, same_key, end, index.finds text utf8) (sym (place_of-push names name (chars text) nowhere)));
     }
 
 -- the index after a pair is taken out
-pub IsIndexOf-take_out : (old less new : BTreeMap (String Global) ℕ) (pairs : List Pair) (place : ℕ) (pair : Pair) → IsIndexOf old (stored_names pairs)
-    → ((text : List ℕ) → get_by_text less text ≡ cond (bytes_eq (string_bytes pair.name) text) None (get_by_text old text))
+pub IsIndexOf-take_out : (old less new : BTreeMap (String Global) ℕ) (pairs : List Attribute) (place : ℕ) (name key : List ℕ) → IsIndexOf old pairs → IsUtf8 key
+    → ((text : List ℕ) → get_by_text less text ≡ cond (bytes_eq key text) None (get_by_text old text)) → chars key ≡ name
     → ((text : List ℕ) → get_by_text new text ≡ option_map (moved_down place) (get_by_text less text))
-    → is_distinct (map attribute_of pairs) ≡ true → place < length (map attribute_of pairs) → pair ≡ get_or pairs place pair → IsIndexOf new (stored_names (remove pairs place))
-IsIndexOf-take_out old less new pairs place pair index removed moved distinct within taken =
-    let name = string_bytes pair.name in
-    let names = stored_names pairs in
-    let stored : slice_get names place ≡ Some name =
-    stored_names-told pairs place pair within ∙ ap (λ (p : Pair). Some (string_bytes p.name)) (sym taken) in
-    let named : slice_get (names_of (map attribute_of pairs)) place ≡ Some (text_of pair.name) =
-    (pairs-told pairs place pair within).0 ∙ ap (λ (p : Pair). Some (text_of p.name)) (sym taken) in
-    let gone : has_name (map attribute_of (remove pairs place)) (text_of pair.name) ≡ false =
-    ap (λ l. has_name l (text_of pair.name)) (map-remove attribute_of pairs place) ∙ has_name-removed (map attribute_of pairs) (text_of pair.name) place distinct named in
+    → is_distinct pairs ≡ true → slice_get (names_of pairs) place ≡ Some name → IsIndexOf new (remove pairs place)
+IsIndexOf-take_out old less new pairs place name key index valid removed same_key moved distinct named =
+    let names = names_of pairs in
+    let gone : names_of (remove pairs place) ≡ remove names place = map-remove (λ (pair : Attribute). pair.0) pairs place in
     let nowhere : place_of (remove names place) name ≡ None =
-    ap (λ l. place_of l name) (sym (map-remove (λ (p : Pair). string_bytes p.name) pairs place)) ∙ place_of-absent name (IsUtf8-string_bytes pair.name) (remove pairs place) gone in
+    ap (λ l. place_of l name) (sym gone) ∙ place_of-absent name (remove pairs place) (has_name-removed pairs name place distinct named) in
     record {
-      finds = λ text.
+      finds = λ text utf8.
           moved text
-          ∙ ap (option_map (moved_down place)) (removed text ∙ ap (λ (r : Option ℕ). cond (bytes_eq name text) None r) (index.finds text))
-          ∙ sym (place_of-remove names place name text stored nowhere)
-          ∙ ap (λ l. place_of l text) (sym (map-remove (λ (p : Pair). string_bytes p.name) pairs place));
+          ∙ ap (option_map (moved_down place))
+          (removed text ∙ rw (bytes_eq-chars key text valid utf8, same_key, index.finds text utf8) refl)
+          ∙ sym (place_of-remove names place name (chars text) named nowhere)
+          ∙ ap (λ l. place_of l (chars text)) (sym gone);
     }

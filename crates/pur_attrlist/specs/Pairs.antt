@@ -1,7 +1,7 @@
--- What a stored pair stands for.
+-- What a pair that is given out stands for.
 use Rattle.pur_attrlist.specs.Texts.{text_of}
 use Rattle.pur_attrlist.specs.Attributes.{Attribute}
-use Rattle.pur_attrlist.specs.declared.stored_pair.Pair.{Pair}
+use Rattle.pur_attrlist.specs.declared.pair.Pair.{Pair}
 
 -- the attribute that a pair is
 abbrev pub attribute_of : Pair → Attribute

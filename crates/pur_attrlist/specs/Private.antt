@@ -2,3 +2,4 @@
 pub mod Index
 pub mod Places
 pub mod Storage
+pub mod Stored

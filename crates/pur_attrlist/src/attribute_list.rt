@@ -5,10 +5,13 @@ ghost use Rattle.std.specs.Option.{option_map};
 ghost use Rattle.std.specs.Str.{chars};
 ghost use Rattle.pur_attrlist.specs.Texts.{text_of};
 ghost use Rattle.pur_attrlist.specs.Pairs.{attribute_of};
+ghost use Rattle.pur_attrlist.specs.Private.Stored.{attribute_in};
 ghost use Rattle.pur_attrlist.specs.Attributes.{names_of, values_of, has_name, is_distinct, value_of, with_value, with_new, without, weight_of};
 
-use crate::stored_pair::Pair;
+use crate::pair::Pair;
+use crate::stored_pair::StoredPair;
 use crate::stored_pairs::StoredPairs;
+use crate::stored_text::StoredText;
 use std::alloc::{AllocError, Global};
 use std::marker::Model;
 
@@ -96,14 +99,14 @@ impl AttrList {
         ensures err { OnErr result (self.new ≡ self.old) }
     {
         let alloc = self.pairs.allocator();
-        let value = String::from_str(alloc, value)?;
+        let value = StoredText::from_str(alloc, value)?;
         match self.pairs.position(name) {
             Some(at) => {
                 self.pairs.replace(at, value);
                 Ok(())
             }
             None => {
-                let name = String::from_str(alloc, name)?;
+                let name = StoredText::from_str(alloc, name)?;
                 self.pairs.push(name, value)?;
                 Ok(())
             }
@@ -121,6 +124,9 @@ impl AttrList {
         match self.pairs.position(name.as_str()) {
             Some(_) => Ok(false),
             None => {
+                let alloc = self.pairs.allocator();
+                let name = StoredText::from_string(alloc, name)?;
+                let value = StoredText::from_string(alloc, value)?;
                 self.pairs.push(name, value)?;
                 Ok(true)
             }
@@ -150,7 +156,8 @@ impl AttrList {
         ensures distinct { IsTrue (is_distinct self) }
     {
         let AttrList { pairs } = self;
-        let pairs = pairs.into_pairs()?;
+        let alloc = pairs.allocator();
+        let pairs = taken_out(alloc, pairs.into_pairs()?)?;
         Ok(pairs)
     }
 
@@ -181,4 +188,15 @@ impl AttrList {
         }
         weight
     }
+}
+
+// The pairs as they are given out.
+fn taken_out(alloc: Global, stored: Vec<StoredPair>) -> Result<Vec<Pair>, AllocError>
+    ensures { IfOk result (λ pairs. map attribute_of pairs.items ≡ map attribute_in stored.items) }
+{
+    let mut pairs = Vec::with_capacity(alloc, stored.len())?;
+    for pair in stored {
+        pairs.push(pair.into_pair(alloc)?)?;
+    }
+    Ok(pairs)
 }

@@ -7,12 +7,12 @@ ghost use Rattle.std.specs.Prelude.{◌≡◌, ◌<◌, ◌++◌, [], ◌∷◌,
 ghost use Rattle.std.specs.Option.{option_map};
 ghost use Rattle.std.specs.Str.{chars};
 ghost use Rattle.std.specs.BTreeMap.{get_by_text};
-ghost use Rattle.pur_attrlist.specs.Texts.{text_of};
 ghost use Rattle.pur_attrlist.specs.Attributes.{names_of, values_of, has_name, is_distinct};
-ghost use Rattle.pur_attrlist.specs.Pairs.{attribute_of};
 ghost use Rattle.pur_attrlist.specs.Private.Places.{with_value_at, IsPlaceOf, moved_down};
+ghost use Rattle.pur_attrlist.specs.Private.Stored.{text_in, attribute_in};
 
-use crate::stored_pair::Pair;
+use crate::stored_pair::StoredPair;
+use crate::stored_text::StoredText;
 use std::alloc::{AllocError, Global};
 use std::collections::BTreeMap;
 use std::marker::Model;
@@ -20,21 +20,21 @@ use std::marker::Model;
 /// Pairs in the order in which they were put, and the place of each name.
 #[derive(Drop)]
 pub(crate) struct IndexedPairs {
-    pairs: Vec<Pair>,
+    pairs: Vec<StoredPair>,
     places: BTreeMap<String, usize>,
 }
 
 impl Model for IndexedPairs {
     ghost use Rattle.std.specs.Prelude.{List, map};
     ghost use Rattle.pur_attrlist.specs.Attributes.{Attribute};
-    ghost use Rattle.pur_attrlist.specs.Pairs.{attribute_of};
-    ghost use Rattle.pur_attrlist.specs.Private.Index.{stored_names, IsIndexOf};
+    ghost use Rattle.pur_attrlist.specs.Private.Index.{IsIndexOf};
+    ghost use Rattle.pur_attrlist.specs.Private.Stored.{attribute_in};
 
     ghost Value = { List Attribute };
 
-    ghost view = { λ list. map attribute_of list.pairs.items };
+    ghost view = { λ list. map attribute_in list.pairs.items };
 
-    ghost invariant = { λ list. IsIndexOf list.places (stored_names list.pairs.items) };
+    ghost invariant = { λ list. IsIndexOf list.places (map attribute_in list.pairs.items) };
 }
 
 impl IndexedPairs {
@@ -85,9 +85,9 @@ impl IndexedPairs {
     }
 
     /// Writes a value in the place of another.
-    pub(crate) fn replace(&mut self, at: usize, value: String)
+    pub(crate) fn replace(&mut self, at: usize, value: StoredText)
         requires { at < length self.old }
-        ensures { self.new ≡ with_value_at self.old at (text_of value) }
+        ensures { self.new ≡ with_value_at self.old at (text_in value) }
     {
         self.pairs[at].value = value;
     }
@@ -104,24 +104,24 @@ impl IndexedPairs {
     }
 
     /// The pairs, without their index.
-    pub(crate) fn into_pairs(self) -> Vec<Pair>
-        ensures { map attribute_of result.items ≡ self }
+    pub(crate) fn into_pairs(self) -> Vec<StoredPair>
+        ensures { map attribute_in result.items ≡ self }
     {
         let IndexedPairs { pairs, .. } = self;
         pairs
     }
 
     /// Appends a pair whose name is new.
-    pub(crate) fn put(&mut self, name: String, value: String) -> Result<(), AllocError>
-        requires { has_name self.old (text_of name) ≡ false }
-        ensures ok { OnOk result (self.new ≡ self.old ++ (text_of name, text_of value) ∷ []) }
+    pub(crate) fn put(&mut self, name: StoredText, value: StoredText) -> Result<(), AllocError>
+        requires { has_name self.old (text_in name) ≡ false }
+        ensures ok { OnOk result (self.new ≡ self.old ++ (text_in name, text_in value) ∷ []) }
         ensures err { OnErr result (self.new ≡ self.old) }
     {
-        let key = name.clone()?;
+        let key = String::from_str(self.allocator(), name.as_str())?;
         self.pairs.reserve(1)?;
         let place = self.pairs.len();
         self.places.insert(key, place)?;
-        self.pairs.push_reserved(Pair { name, value });
+        self.pairs.push_reserved(StoredPair { name, value });
         Ok(())
     }
 }

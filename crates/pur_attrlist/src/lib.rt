@@ -6,11 +6,14 @@
 
 mod attribute_list;
 mod indexed_pairs;
+mod pair;
 mod pairs_in_order;
+mod short_text;
 mod stored_pair;
 mod stored_pairs;
+mod stored_text;
 mod styles;
 
 pub use attribute_list::AttrList;
-pub use stored_pair::Pair;
+pub use pair::Pair;
 pub use styles::put_style;

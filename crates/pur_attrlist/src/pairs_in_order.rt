@@ -1,8 +1,8 @@
 //! Where an attribute list keeps its pairs: in a plain vector, or in one that has an index of its names beside it.
 //!
-//! Nearly all tags that have attributes have one or two, and a `SmallVec` with two places inside needs no allocation of its
-//! own for them. With one place a second pair takes a tenth more time; with four the pairs are no faster, and a list in a tree
-//! holds twice the memory. A search along a few names is faster than a look-up. But a stranger can write a tag with more
+//! Most tags that have attributes have one, and a `SmallVec` with one place inside needs no allocation of its own for it. A
+//! second place would spare a list of two an allocation, which is a fifth of the time that it takes to make, and a third of its
+//! memory; but each list of one would take half as much again, and a tree of links is full of these. A search along a few names is faster than a look-up. But a stranger can write a tag with more
 //! than a hundred thousand names, where a search along all of them for each of them would take quadratic time. So a plain
 //! list that has come to sixteen pairs moves all of them into the indexed form when it is to grow by another.
 //!
@@ -11,14 +11,14 @@
 //! stays plain where a pair is added, since few are.
 ghost use Rattle.std.specs.Prelude.{◌≡◌, ◌<◌, ◌++◌, [], ◌∷◌, false, length, map, remove, slice_get, Some, OnOk, OnErr, IfOk, IfSome, IfNone, IsTrue};
 ghost use Rattle.std.specs.Str.{chars};
-ghost use Rattle.pur_attrlist.specs.Texts.{text_of};
 ghost use Rattle.pur_attrlist.specs.Attributes.{names_of, values_of, has_name, is_distinct};
-ghost use Rattle.pur_attrlist.specs.Pairs.{attribute_of};
 ghost use Rattle.pur_attrlist.specs.Private.Places.{with_value_at, IsPlaceOf};
 ghost use Rattle.pur_attrlist.specs.Private.Storage.{attributes_of};
+ghost use Rattle.pur_attrlist.specs.Private.Stored.{text_in, attribute_in};
 
 use crate::indexed_pairs::IndexedPairs;
-use crate::stored_pair::{Pair, position_among};
+use crate::stored_pair::{StoredPair, position_among};
+use crate::stored_text::StoredText;
 use smallvec::SmallVec;
 use std::alloc::{AllocError, Global};
 use std::mem;
@@ -29,7 +29,7 @@ const FEW: usize = 16;
 /// Pairs in the order in which they were put, without an index of their names or with one.
 #[derive(Drop)]
 pub(crate) enum PairsInOrder {
-    Plain(SmallVec<Pair, 2>),
+    Plain(SmallVec<StoredPair, 1>),
     Indexed(IndexedPairs),
 }
 
@@ -100,9 +100,9 @@ impl PairsInOrder {
     }
 
     /// Writes a value in the place of another.
-    pub(crate) fn replace(&mut self, at: usize, value: String)
+    pub(crate) fn replace(&mut self, at: usize, value: StoredText)
         requires { at < length (attributes_of self.old) }
-        ensures { attributes_of self.new ≡ with_value_at (attributes_of self.old) at (text_of value) }
+        ensures { attributes_of self.new ≡ with_value_at (attributes_of self.old) at (text_in value) }
     {
         match self {
             PairsInOrder::Plain(plain) => plain.as_mut_slice()[at].value = value,
@@ -125,10 +125,10 @@ impl PairsInOrder {
     }
 
     /// Appends a pair whose name is new, and goes over to the indexed form where the list grows long.
-    pub(crate) fn push(&mut self, name: String, value: String) -> Result<(), AllocError>
+    pub(crate) fn push(&mut self, name: StoredText, value: StoredText) -> Result<(), AllocError>
         requires distinct { IsTrue (is_distinct (attributes_of self.old)) }
-        requires absent { has_name (attributes_of self.old) (text_of name) ≡ false }
-        ensures ok { OnOk result (attributes_of self.new ≡ attributes_of self.old ++ (text_of name, text_of value) ∷ []) }
+        requires absent { has_name (attributes_of self.old) (text_in name) ≡ false }
+        ensures ok { OnOk result (attributes_of self.new ≡ attributes_of self.old ++ (text_in name, text_in value) ∷ []) }
         ensures err { OnErr result (attributes_of self.new ≡ attributes_of self.old) }
     {
         self.make_room()?;
@@ -152,14 +152,14 @@ impl PairsInOrder {
     }
 
     // Appends a pair whose name is new.
-    fn put(&mut self, name: String, value: String) -> Result<(), AllocError>
-        requires { has_name (attributes_of self.old) (text_of name) ≡ false }
-        ensures ok { OnOk result (attributes_of self.new ≡ attributes_of self.old ++ (text_of name, text_of value) ∷ []) }
+    fn put(&mut self, name: StoredText, value: StoredText) -> Result<(), AllocError>
+        requires { has_name (attributes_of self.old) (text_in name) ≡ false }
+        ensures ok { OnOk result (attributes_of self.new ≡ attributes_of self.old ++ (text_in name, text_in value) ∷ []) }
         ensures err { OnErr result (attributes_of self.new ≡ attributes_of self.old) }
     {
         match self {
             PairsInOrder::Plain(plain) => {
-                plain.push(Pair { name, value })?;
+                plain.push(StoredPair { name, value })?;
             }
             PairsInOrder::Indexed(indexed) => {
                 indexed.put(name, value)?;
@@ -169,8 +169,8 @@ impl PairsInOrder {
     }
 
     /// The pairs, in order. Takes memory where they stand inside.
-    pub(crate) fn into_pairs(self) -> Result<Vec<Pair>, AllocError>
-        ensures { IfOk result (λ pairs. map attribute_of pairs.items ≡ attributes_of self) }
+    pub(crate) fn into_pairs(self) -> Result<Vec<StoredPair>, AllocError>
+        ensures { IfOk result (λ pairs. map attribute_in pairs.items ≡ attributes_of self) }
     {
         match self {
             PairsInOrder::Plain(plain) => {
@@ -213,8 +213,8 @@ impl PairsInOrder {
     {
         let alloc = self.allocator();
         for at in 0..self.len() {
-            let name = String::from_str(alloc, self.name_at(at))?;
-            let value = String::from_str(alloc, self.value_at(at))?;
+            let name = StoredText::from_str(alloc, self.name_at(at))?;
+            let value = StoredText::from_str(alloc, self.value_at(at))?;
             copy.put(name, value)?;
         }
         Ok(copy)

@@ -5,14 +5,14 @@
 
 ghost use Rattle.std.specs.Prelude.{◌≡◌, ◌<◌, ◌++◌, [], ◌∷◌, false, length, map, remove, slice_get, Some, OnOk, OnErr, IfOk, IfSome, IfNone, IsTrue};
 ghost use Rattle.std.specs.Str.{chars};
-ghost use Rattle.pur_attrlist.specs.Texts.{text_of};
 ghost use Rattle.pur_attrlist.specs.Attributes.{names_of, values_of, has_name, is_distinct};
-ghost use Rattle.pur_attrlist.specs.Pairs.{attribute_of};
 ghost use Rattle.pur_attrlist.specs.Private.Places.{with_value_at, IsPlaceOf};
 ghost use Rattle.pur_attrlist.specs.Private.Storage.{attributes_of, stored_of};
+ghost use Rattle.pur_attrlist.specs.Private.Stored.{text_in, attribute_in};
 
 use crate::pairs_in_order::PairsInOrder;
-use crate::stored_pair::Pair;
+use crate::stored_pair::StoredPair;
+use crate::stored_text::StoredText;
 use std::alloc::{AllocError, Global};
 use std::boxed::Box;
 
@@ -80,9 +80,9 @@ impl StoredPairs {
     }
 
     /// Writes a value in the place of another.
-    pub(crate) fn replace(&mut self, at: usize, value: String)
+    pub(crate) fn replace(&mut self, at: usize, value: StoredText)
         requires { at < length (stored_of self.old) }
-        ensures { stored_of self.new ≡ with_value_at (stored_of self.old) at (text_of value) }
+        ensures { stored_of self.new ≡ with_value_at (stored_of self.old) at (text_in value) }
     {
         match &mut self.held {
             Some(pairs) => pairs.replace(at, value),
@@ -103,10 +103,10 @@ impl StoredPairs {
     }
 
     /// Appends a pair whose name is new.
-    pub(crate) fn push(&mut self, name: String, value: String) -> Result<(), AllocError>
+    pub(crate) fn push(&mut self, name: StoredText, value: StoredText) -> Result<(), AllocError>
         requires distinct { IsTrue (is_distinct (stored_of self.old)) }
-        requires absent { has_name (stored_of self.old) (text_of name) ≡ false }
-        ensures ok { OnOk result (stored_of self.new ≡ stored_of self.old ++ (text_of name, text_of value) ∷ []) }
+        requires absent { has_name (stored_of self.old) (text_in name) ≡ false }
+        ensures ok { OnOk result (stored_of self.new ≡ stored_of self.old ++ (text_in name, text_in value) ∷ []) }
         ensures err { OnErr result (stored_of self.new ≡ stored_of self.old) }
     {
         match &mut self.held {
@@ -121,8 +121,8 @@ impl StoredPairs {
     }
 
     /// The pairs, in order. Takes no memory where there are none.
-    pub(crate) fn into_pairs(self) -> Result<Vec<Pair>, AllocError>
-        ensures { IfOk result (λ pairs. map attribute_of pairs.items ≡ stored_of self) }
+    pub(crate) fn into_pairs(self) -> Result<Vec<StoredPair>, AllocError>
+        ensures { IfOk result (λ pairs. map attribute_in pairs.items ≡ stored_of self) }
     {
         let StoredPairs { alloc, held } = self;
         match held {
@@ -164,8 +164,12 @@ impl StoredPairs {
 }
 
 // One pair behind a pointer.
-fn single(alloc: Global, name: String, value: String) -> Result<Box<PairsInOrder>, AllocError>
-    ensures { IfOk result (λ held. attributes_of held.value ≡ (text_of name, text_of value) ∷ []) }
+fn single(
+    alloc: Global,
+    name: StoredText,
+    value: StoredText,
+) -> Result<Box<PairsInOrder>, AllocError>
+    ensures { IfOk result (λ held. attributes_of held.value ≡ (text_in name, text_in value) ∷ []) }
 {
     let mut pairs = PairsInOrder::plain(alloc);
     pairs.push(name, value)?;

@@ -4,12 +4,12 @@ use Rattle.std.specs.Prelude.{codes}
 use Rattle.std.proofs.lemmas.Bool.{and_parts, and_from}
 use Rattle.pur_laws.proofs.Truth.{either}
 use Rattle.pur_names.specs.declared.elements.Element.{Element}
-use Rattle.pur_names.specs.declared.elements.Element.TheVariants.{A, Bdo, Img}
+use Rattle.pur_names.specs.declared.elements.Element.TheVariants.{A, Bdo, Form, Img, Optgroup, Textarea}
 use Rattle.pur_modules.specs.declared.kinds.Doctype.{Doctype}
 use Rattle.pur_modules.specs.declared.kinds.Doctype.TheVariants.{Strict, Transitional}
 use Rattle.pur_modules.specs.Groups.{is_among}
 use Rattle.pur_settings.specs.Rules.{Rules}
-use Rattle.pur_attrlist.specs.Attributes.{Attribute, has_name, is_distinct, with_value, without}
+use Rattle.pur_attrlist.specs.Attributes.{Attribute, has_name, is_distinct, with_new, with_value, without}
 use Rattle.pur_attrlist.proofs.AttributeLaws.{is_distinct-without}
 use Rattle.pur_attrlist.proofs.DistinctLaws.{is_distinct-with_value, is_distinct-with_new, is_distinct-with_style}
 use Rattle.pur_tree.specs.Nodes.{Nodes, no_nodes, text_first, elem_first}
@@ -53,6 +53,10 @@ told-apart (Some language) attrs apart =
 required-apart : (element : Element) (attrs : List Attribute) → is_distinct attrs ≡ true → is_distinct (with_required element attrs) ≡ true
 required-apart Bdo attrs apart = is_distinct-with_new attrs (codes "dir") (codes "ltr") apart
 required-apart Img attrs apart = is_distinct-with_new attrs (codes "alt") (source_name attrs) apart
+required-apart Form attrs apart = is_distinct-with_new attrs (codes "action") [] apart
+required-apart Optgroup attrs apart = is_distinct-with_new attrs (codes "label") [] apart
+required-apart Textarea attrs apart =
+    is_distinct-with_new (with_new attrs (codes "rows") (codes "4")) (codes "cols") (codes "40") (is_distinct-with_new attrs (codes "rows") (codes "4") apart)
 required-apart element attrs apart = apart
 
 completed-apart : (element : Element) (attrs : List Attribute) → is_distinct attrs ≡ true → is_distinct (completed_attributes element attrs) ≡ true

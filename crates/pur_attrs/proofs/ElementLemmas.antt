@@ -9,12 +9,12 @@ use Rattle.pur_text.specs.Characters.{is_allowed}
 use Rattle.pur_names.specs.Elements.{same_element}
 use Rattle.pur_names.specs.declared.attributes.Attr.TheVariants.{Id, Src}
 use Rattle.pur_names.specs.declared.elements.Element.{Element}
-use Rattle.pur_names.specs.declared.elements.Element.TheVariants.{Bdo, Img}
+use Rattle.pur_names.specs.declared.elements.Element.TheVariants.{Bdo, Form, Img, Optgroup, Textarea}
 use Rattle.pur_names.proofs.AttrLaws.{attr_named-name}
 use Rattle.pur_settings.specs.Rules.{Rules, permits_attribute}
 use Rattle.pur_values.specs.Tokens.{is_id}
 use Rattle.pur_values.proofs.AllowedLemmas.{id-allowed}
-use Rattle.pur_attrlist.specs.Attributes.{Attribute, is_same_text, has_name, value_of, with_value}
+use Rattle.pur_attrlist.specs.Attributes.{Attribute, is_same_text, has_name, value_of, with_value, with_new}
 use Rattle.pur_attrlist.proofs.TextLaws.{same_text, is_same_text-refl}
 use Rattle.pur_tree.specs.Nodes.{PlainElem, plain_elem}
 use Rattle.pur_tree.specs.Spelling.{has_allowed_values, is_spellable_attribute}
@@ -30,7 +30,7 @@ use Rattle.pur_attrs.proofs.FirstLemmas.{somes, passes}
 use Rattle.pur_attrs.proofs.PairLemmas.{value_of-with_same, value_of-with_other, value_of-without_same, value_of-new_other, has_name-new, has_name-new_other, has_name-with_value, has_name-without_other, all-with_value, all-new, all-value_of, all-filter_where, filter_map-same, found-read, with_value-same, new-same}
 use Rattle.pur_attrs.proofs.SegmentLemmas.{path-characters, segment-characters}
 use Rattle.pur_attrs.proofs.StepLemmas.{allowed-named, allowed-styled, source-named, picture-styled, named-same, styled-same}
-use Rattle.pur_attrs.proofs.ValueLemmas.{Readings, valid-named, kept-name, kept-fine, valid-kept, id-canonical, canonical-id, languages-valid, direction-valid, picture-permitted, alt-valid, bytes-allowed}
+use Rattle.pur_attrs.proofs.ValueLemmas.{Readings, valid-named, kept-name, kept-fine, valid-kept, id-canonical, canonical-id, languages-valid, required-permitted, direction-valid, label-valid, rows-valid, cols-valid, action-valid, alt-valid, bytes-allowed}
 
 -- ---- what is kept is valid, and may stand in a tag
 
@@ -71,7 +71,7 @@ source-read : (rules : Rules) (rule : PlainHostRule) (value : List ℕ) (uri : P
     → kept_attribute rules rule Img (codes "src", value) ≡ Some (codes "src", uri_text uri)
 source-read rules rule value uri is =
     ap (option_and_then (λ attr. cond (permits_attribute rules Img attr) (option_map (λ v. (codes "src", v)) (value_on rules rule Img attr value)) None)) (attr_named-name Src)
-    ∙ cond-true _ _ _ (picture-permitted rules Src refl refl)
+    ∙ cond-true _ _ _ (required-permitted rules Img Src refl refl)
     ∙ ap (λ o. option_map (λ v. (codes "src", v)) (option_map uri_text o)) is
 
 source-kept : (rules : Rules) (rule : PlainHostRule) (attrs : List Attribute) → has_source rules rule attrs ≡ true
@@ -178,11 +178,34 @@ id-told attrs told enough = go (value_of attrs (codes "id")) refl told enough
 
 -- ---- what is put in
 
-required-other : (element : Element) (attrs : List Attribute) (name : List ℕ) → is_same_text name (codes "dir") ≡ false
-    → is_same_text name (codes "alt") ≡ false → value_of (with_required element attrs) name ≡ value_of attrs name
-required-other Bdo attrs name isnt other = value_of-new_other attrs (codes "dir") name (codes "ltr") isnt
-required-other Img attrs name isnt other = value_of-new_other attrs (codes "alt") name (source_name attrs) other
-required-other element attrs name isnt other = refl
+-- a name that is none of those that are put in
+record IsOther (name : List ℕ) : Type 0 where
+  dir : is_same_text name (codes "dir") ≡ false
+  alt : is_same_text name (codes "alt") ≡ false
+  action : is_same_text name (codes "action") ≡ false
+  label : is_same_text name (codes "label") ≡ false
+  rows : is_same_text name (codes "rows") ≡ false
+  cols : is_same_text name (codes "cols") ≡ false
+
+other-id : IsOther (codes "id")
+other-id = record { dir = refl; alt = refl; action = refl; label = refl; rows = refl; cols = refl }
+
+other-lang : IsOther (codes "lang")
+other-lang = record { dir = refl; alt = refl; action = refl; label = refl; rows = refl; cols = refl }
+
+other-xml_lang : IsOther (codes "xml:lang")
+other-xml_lang = record { dir = refl; alt = refl; action = refl; label = refl; rows = refl; cols = refl }
+
+required-other : (element : Element) (attrs : List Attribute) (name : List ℕ) → IsOther name
+    → value_of (with_required element attrs) name ≡ value_of attrs name
+required-other Bdo attrs name other = value_of-new_other attrs (codes "dir") name (codes "ltr") other.dir
+required-other Img attrs name other = value_of-new_other attrs (codes "alt") name (source_name attrs) other.alt
+required-other Form attrs name other = value_of-new_other attrs (codes "action") name [] other.action
+required-other Optgroup attrs name other = value_of-new_other attrs (codes "label") name [] other.label
+required-other Textarea attrs name other =
+    value_of-new_other (with_new attrs (codes "rows") (codes "4")) (codes "cols") name (codes "40") other.cols
+    ∙ value_of-new_other attrs (codes "rows") name (codes "4") other.rows
+required-other element attrs name other = refl
 
 pub language-other : (o : Option (List ℕ)) (attrs : List Attribute) (name : List ℕ) → is_same_text name (codes "lang") ≡ false
     → is_same_text name (codes "xml:lang") ≡ false → value_of (with_language o attrs) name ≡ value_of attrs name
@@ -194,7 +217,7 @@ language-other (Some language) attrs name one two =
 pub completed-id : (element : Element) (attrs : List Attribute) → ids_in (completed_attributes element attrs) ≡ ids_in attrs
 completed-id element attrs =
     ap (λ o. option_map_or (λ id. id ∷ []) o [])
-    (required-other element (with_language (language_told attrs) attrs) (codes "id") refl refl ∙ language-other (language_told attrs) attrs (codes "id") refl refl)
+    (required-other element (with_language (language_told attrs) attrs) (codes "id") other-id ∙ language-other (language_told attrs) attrs (codes "id") refl refl)
 
 -- both languages are the same
 languages-alike : (attrs : List Attribute) (o : Option (List ℕ)) → language_told attrs ≡ o
@@ -214,8 +237,8 @@ languages-alike attrs (Some language) told =
 pub completed-language : (e : PlainElem) → has_one_language (plain_elem e.name (completed_attributes e.name e.attrs)) ≡ true
 completed-language e =
     let inner = with_language (language_told e.attrs) e.attrs in
-    ap (λ o. are_alike o (value_of (with_required e.name inner) (codes "xml:lang"))) (required-other e.name inner (codes "lang") refl refl)
-    ∙ ap (are_alike (value_of inner (codes "lang"))) (required-other e.name inner (codes "xml:lang") refl refl)
+    ap (λ o. are_alike o (value_of (with_required e.name inner) (codes "xml:lang"))) (required-other e.name inner (codes "lang") other-lang)
+    ∙ ap (are_alike (value_of inner (codes "lang"))) (required-other e.name inner (codes "xml:lang") other-xml_lang)
     ∙ languages-alike e.attrs (language_told e.attrs) refl
 
 -- required ones are there
@@ -225,6 +248,12 @@ required-there Bdo attrs src = and_from _ _ (has_name-new attrs (codes "dir") (c
 required-there Img attrs src =
     and_from _ _ (has_name-new_other attrs (codes "alt") (codes "src") (source_name attrs) src)
     (and_from _ _ (has_name-new attrs (codes "alt") (source_name attrs)) refl)
+required-there Form attrs src = and_from _ _ (has_name-new attrs (codes "action") []) refl
+required-there Optgroup attrs src = and_from _ _ (has_name-new attrs (codes "label") []) refl
+required-there Textarea attrs src =
+    let rows = with_new attrs (codes "rows") (codes "4") in
+    and_from _ _ (has_name-new_other rows (codes "cols") (codes "rows") (codes "40") (has_name-new attrs (codes "rows") (codes "4")))
+    (and_from _ _ (has_name-new rows (codes "cols") (codes "40")) refl)
 required-there element attrs src = refl
 
 language-src : (o : Option (List ℕ)) (attrs : List Attribute) → has_name (with_language o attrs) (codes "src") ≡ has_name attrs (codes "src")
@@ -268,6 +297,12 @@ module _ (known : Readings) (rules : Rules) (rule : PlainHostRule) where
       let name = source-characters known attrs in
       all-new (both rules rule Img) attrs (codes "alt") (source_name attrs) fine
       (and_from _ _ (alt-valid rules rule (source_name attrs) name) (bytes-allowed (source_name attrs) name))
+  required-fine Form attrs fine = all-new (both rules rule Form) attrs (codes "action") [] fine (and_from _ _ (action-valid rules rule) refl)
+  required-fine Optgroup attrs fine = all-new (both rules rule Optgroup) attrs (codes "label") [] fine (and_from _ _ (label-valid rules rule) refl)
+  required-fine Textarea attrs fine =
+      all-new (both rules rule Textarea) (with_new attrs (codes "rows") (codes "4")) (codes "cols") (codes "40")
+      (all-new (both rules rule Textarea) attrs (codes "rows") (codes "4") fine (and_from _ _ (rows-valid rules rule) refl))
+      (and_from _ _ (cols-valid rules rule) refl)
   required-fine element attrs fine = fine
 
   pub completed-fine : (e : PlainElem) → is_fine rules rule e ≡ true → is_fine rules rule (plain_elem e.name (completed_attributes e.name e.attrs)) ≡ true
@@ -304,6 +339,12 @@ required-same Bdo attrs has = new-same attrs (codes "dir") (codes "ltr") (and_pa
 required-same Img attrs has =
     let more = (and_parts (has_name attrs (codes "src")) (has_name attrs (codes "alt") && true) has).1 in
     new-same attrs (codes "alt") (source_name attrs) (and_parts (has_name attrs (codes "alt")) true more).0
+required-same Form attrs has = new-same attrs (codes "action") [] (and_parts (has_name attrs (codes "action")) true has).0
+required-same Optgroup attrs has = new-same attrs (codes "label") [] (and_parts (has_name attrs (codes "label")) true has).0
+required-same Textarea attrs has =
+    let sizes = and_parts (has_name attrs (codes "rows")) (has_name attrs (codes "cols") && true) has in
+    ap (λ l. with_new l (codes "cols") (codes "40")) (new-same attrs (codes "rows") (codes "4") sizes.0)
+    ∙ new-same attrs (codes "cols") (codes "40") (and_parts (has_name attrs (codes "cols")) true sizes.1).0
 required-same element attrs has = refl
 
 pub completed-same : (e : PlainElem) → has_required e ≡ true → has_one_language e ≡ true → completed_attributes e.name e.attrs ≡ e.attrs

@@ -3,6 +3,7 @@ use Rattle.std.proofs.Common.{◌≡◌, ℕ, ◌^◌, Bool, true, false, not, �
 use mathlib.Core.Bool.{beq}
 use Rattle.std.specs.Prelude.{codes, encode_utf8_all}
 use Rattle.std.specs.List.{find, list_all, list_any}
+use Rattle.std.specs.Fmt.{digits}
 use Rattle.std.specs.Str.{bytes_eq}
 use Rattle.std.specs.Option.{option_and_then, option_map, option_map_or}
 use Rattle.std.proofs.lemmas.Bool.{and_parts, and_from, cond-true, leb-true, ltb-true}
@@ -18,9 +19,9 @@ use Rattle.pur_text.proofs.CleaningLemmas.{allowed_scalars}
 use Rattle.pur_names.specs.Attributes.{attr_name, attr_named, same_attr, all_attrs}
 use Rattle.pur_names.specs.Elements.{all_elements, element_rank}
 use Rattle.pur_names.specs.declared.attributes.Attr.{Attr}
-use Rattle.pur_names.specs.declared.attributes.Attr.TheVariants.{Alt, Cite, Dir, Href, Id, Lang, Longdesc, Src, Style, XmlLang}
+use Rattle.pur_names.specs.declared.attributes.Attr.TheVariants.{Action, Alt, Cite, Cols, Dir, Href, Id, Label, Lang, Longdesc, Rows, Src, Style, XmlLang}
 use Rattle.pur_names.specs.declared.elements.Element.{Element}
-use Rattle.pur_names.specs.declared.elements.Element.TheVariants.{Bdo, Img}
+use Rattle.pur_names.specs.declared.elements.Element.TheVariants.{Bdo, Form, Img, Optgroup, Textarea}
 use Rattle.pur_names.proofs.AttrLaws.{attr_named-name, each_attr}
 use Rattle.pur_names.proofs.ElementLaws.{each_element, all_elements-rank}
 use Rattle.pur_modules.specs.AttributeLists.{attributes_of, required_of}
@@ -31,6 +32,7 @@ use Rattle.pur_settings.specs.Rules.{Rules, permits_attribute, is_listed}
 use Rattle.pur_settings.specs.Items.{covers}
 use Rattle.pur_settings.proofs.ItemLemmas.{languages-covered}
 use Rattle.pur_values.specs.Kinds.{kind_of, is_declared}
+use Rattle.pur_values.specs.Numbers.{numeral}
 use Rattle.pur_values.specs.Laws.{AreAllowed, ReadAsItself, IsSound}
 use Rattle.pur_values.specs.Tokens.{is_id, is_id_character}
 use Rattle.pur_values.specs.Words.{is_letter, kept_where}
@@ -43,13 +45,14 @@ use Rattle.pur_values.proofs.TightLemmas.{solid-tight}
 use Rattle.pur_attrlist.specs.Attributes.{Attribute, is_same_text}
 use Rattle.pur_attrlist.proofs.TextLaws.{same_text, is_same_text-refl}
 use Rattle.pur_tree.specs.Spelling.{is_attr_name, is_spellable_attribute}
-use Rattle.pur_uri.specs.Escapes.{stays_in_path, stays_in_query}
+use Rattle.pur_uri.specs.Escapes.{stays_in_path, stays_in_query, normalised}
 use Rattle.pur_uri.specs.Laws.{is_canonical_byte}
-use Rattle.pur_uri.specs.Uris.{PlainUri, uri_of, uri_text}
-use Rattle.pur_uripolicy.specs.HostRules.{PlainHostRule}
+use Rattle.pur_uri.specs.Splitting.{tidied, has_scheme, scheme_part, behind_scheme, has_authority, authority_part, behind_authority, query_part, behind_query, fragment_part, parts_of}
+use Rattle.pur_uri.specs.Uris.{PlainUri, fits, has_reading, reading_of, uri_of_parts, uri_of, uri_text}
+use Rattle.pur_uripolicy.specs.HostRules.{PlainHostRule, admits}
 use Rattle.pur_uripolicy.specs.declared.uses.UriUse.{UriUse}
 use Rattle.pur_uripolicy.specs.declared.uses.UriUse.TheVariants.{Embed, Link}
-use Rattle.pur_uripolicy.specs.Admissible.{uri_under}
+use Rattle.pur_uripolicy.specs.Admissible.{is_fit, uri_under}
 use Rattle.pur_uripolicy.specs.Laws.{ReadAgain, UrisAreAllowed}
 use Rattle.pur_cssprops.specs.Laws.{StyleReadAsItself}
 use Rattle.pur_cssprops.specs.Styles.{style_read}
@@ -188,6 +191,7 @@ module _ (known : Readings) (rules : Rules) (rule : PlainHostRule) where
 
   reading-again : (element : Element) (attr : Attr) (raw value : List ℕ) → list_all is_allowed raw ≡ true → value_on rules rule element attr raw ≡ Some value
       → IsReading (value_on rules rule element attr) value
+  reading-again element Action raw value all is = uri-reading Link raw value all is
   reading-again element Cite raw value all is = uri-reading Link raw value all is
   reading-again element Href raw value all is = uri-reading Link raw value all is
   reading-again element Longdesc raw value all is = uri-reading Link raw value all is
@@ -324,21 +328,59 @@ languages-valid rules rule element value =
     ∙ ap (λ k. permits_attribute rules element XmlLang && option_map_or (is_same_text value) (option_and_then (λ j. value_of j value) k) false) (language-kinds element)
     ∙ sym (valid-named rules rule element XmlLang value)
 
--- ---- the direction of `bdo`
+-- ---- what an element must have
 
-direction-declared : (doctype : Doctype) → list_any (same_attr Dir) (attributes_of doctype Bdo) ≡ true
+-- where the first of two holds, the second does
+and-so : (a b : Bool) → (not a || b) ≡ true → a ≡ true → b ≡ true
+and-so true b so is = so
+and-so false b so is = absurd (cc)
+
+-- each doctype declares it
+abbrev declares : Doctype → Element → Attr → Bool
+declares doctype element attr = not (list_any (same_attr attr) (required_of element)) || list_any (same_attr attr) (attributes_of doctype element)
+
+declares-each : (doctype : Doctype) (element : Element) → list_all (declares doctype element) all_attrs ≡ true
 unfolding attributes_of
-direction-declared Strict = refl
-direction-declared Transitional = refl
+declares-each Strict = each_element (λ element. list_all (declares Strict element) all_attrs) refl
+declares-each Transitional = each_element (λ element. list_all (declares Transitional element) all_attrs) refl
 
-direction-canonical : (rules : Rules) (rule : PlainHostRule) → is_canonical rules rule Bdo Dir (codes "ltr") ≡ true
-unfolding attributes_of kind_of is_declared trimmed value_of
-direction-canonical rules rule = refl
+-- and so it is permitted
+pub required-permitted : (rules : Rules) (element : Element) (attr : Attr) → list_any (same_attr attr) (required_of element) ≡ true
+    → not (same_attr attr Id) ≡ true → permits_attribute rules element attr ≡ true
+required-permitted rules element attr is other =
+    and_from _ _
+    (and_from _ _ (and-so _ _ (each_attr (declares rules.doctype element) (declares-each rules.doctype element) attr) is)
+    (ap (λ b. is_listed rules.attributes rules.denied_attributes (covers element attr) || b) is
+    ∙ or_true (is_listed rules.attributes rules.denied_attributes (covers element attr))))
+    (ap (λ b. b || rules.ids) other)
 
-pub direction-valid : (rules : Rules) (rule : PlainHostRule) → is_valid_attribute rules rule Bdo (codes "dir", codes "ltr") ≡ true
-direction-valid rules rule =
-    valid-named rules rule Bdo Dir (codes "ltr")
-    ∙ and_from _ _ (and_from _ _ (and_from _ _ (direction-declared rules.doctype) (or_true (is_listed rules.attributes rules.denied_attributes (covers Bdo Dir)))) refl) (direction-canonical rules rule)
+-- what is put in without looking at the other attributes is its own reading
+module _ (rules : Rules) (rule : PlainHostRule) where
+  required-valid : (element : Element) (attr : Attr) (value : List ℕ) → list_any (same_attr attr) (required_of element) ≡ true
+      → not (same_attr attr Id) ≡ true → is_canonical rules rule element attr value ≡ true
+      → is_valid_attribute rules rule element (attr_name attr, value) ≡ true
+  required-valid element attr value is other canonical =
+      valid-named rules rule element attr value ∙ and_from _ _ (required-permitted rules element attr is other) canonical
+
+  pub direction-valid : is_valid_attribute rules rule Bdo (codes "dir", codes "ltr") ≡ true
+  unfolding attributes_of kind_of is_declared trimmed value_of
+  direction-valid = required-valid Bdo Dir (codes "ltr") refl refl refl
+
+  pub label-valid : is_valid_attribute rules rule Optgroup (codes "label", []) ≡ true
+  unfolding kind_of value_of
+  label-valid = required-valid Optgroup Label [] refl refl refl
+
+  pub rows-valid : is_valid_attribute rules rule Textarea (codes "rows", codes "4") ≡ true
+  unfolding kind_of is_declared trimmed value_of digits numeral
+  rows-valid = required-valid Textarea Rows (codes "4") refl refl refl
+
+  pub cols-valid : is_valid_attribute rules rule Textarea (codes "cols", codes "40") ≡ true
+  unfolding kind_of is_declared trimmed value_of digits numeral
+  cols-valid = required-valid Textarea Cols (codes "40") refl refl refl
+
+  pub action-valid : is_valid_attribute rules rule Form (codes "action", []) ≡ true
+  unfolding lib.Utf8.encode tidied has_scheme scheme_part behind_scheme has_authority authority_part behind_authority query_part behind_query fragment_part parts_of stays_in_path stays_in_query normalised fits has_reading reading_of uri_of_parts uri_of uri_text is_fit admits uri_under
+  action-valid = required-valid Form Action [] refl refl refl
 
 -- ---- the text in the place of a picture
 
@@ -359,25 +401,6 @@ bytes-spaced (b ∷ text) all =
     let parts = and_parts (is_canonical_byte b) (list_all is_canonical_byte text) all in
     ap (λ c. c ∷ map spaced text) (byte-spaced b parts.0) ∙ ap (λ l. b ∷ l) (bytes-spaced text parts.1)
 
-pictures-have : (doctype : Doctype) (attr : Attr) → list_any (same_attr attr) (required_of Img) ≡ true → list_any (same_attr attr) (attributes_of doctype Img) ≡ true
-unfolding attributes_of
-pictures-have Strict Src is = refl
-pictures-have Strict Alt is = refl
-pictures-have Strict attr is = absurd (cc)
-pictures-have Transitional Src is = refl
-pictures-have Transitional Alt is = refl
-pictures-have Transitional attr is = absurd (cc)
-
--- what a picture must have is permitted
-pub picture-permitted : (rules : Rules) (attr : Attr) → list_any (same_attr attr) (required_of Img) ≡ true → not (same_attr attr Id) ≡ true
-    → permits_attribute rules Img attr ≡ true
-picture-permitted rules attr is other =
-    and_from _ _
-    (and_from _ _ (pictures-have rules.doctype attr is)
-    (ap (λ b. is_listed rules.attributes rules.denied_attributes (covers Img attr) || b) is
-    ∙ or_true (is_listed rules.attributes rules.denied_attributes (covers Img attr))))
-    (ap (λ b. b || rules.ids) other)
-
 alt-kind : kind_of Img Alt ≡ Some kind.Text
 unfolding kind_of
 alt-kind = refl
@@ -387,5 +410,5 @@ pub alt-valid : (rules : Rules) (rule : PlainHostRule) (text : List ℕ) → lis
 unfolding value_of
 alt-valid rules rule text all =
     valid-named rules rule Img Alt text
-    ∙ and_from _ _ (picture-permitted rules Alt refl refl)
+    ∙ and_from _ _ (required-permitted rules Img Alt refl refl)
     (reading-canonical rules rule Img Alt text (ap (option_and_then (λ k. value_of k text)) alt-kind ∙ ap Some (bytes-spaced text all)))

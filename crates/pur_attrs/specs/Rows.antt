@@ -2,7 +2,7 @@
 use Rattle.std.specs.Prelude.{ℕ, ◌≡◌, true, List, [], ◌∷◌, Some, None, codes}
 use Rattle.pur_names.specs.declared.attributes.Attr.TheVariants.{Lang}
 use Rattle.pur_names.specs.declared.elements.Element.{Element}
-use Rattle.pur_names.specs.declared.elements.Element.TheVariants.{A, Bdo, Div, Img, P, Table, Td, Tr}
+use Rattle.pur_names.specs.declared.elements.Element.TheVariants.{A, Bdo, Div, Form, Img, Input, Optgroup, P, Table, Td, Textarea, Tr}
 use Rattle.pur_modules.specs.declared.kinds.Doctype.TheVariants.{Strict, Transitional}
 use Rattle.pur_settings.specs.Rules.{Rules, default_rules}
 use Rattle.pur_settings.specs.declared.items.Item.TheVariants.{Everywhere}
@@ -127,6 +127,33 @@ PutsADirection = valid_under default_rules (el Bdo []) ≡ el Bdo ((codes "dir",
 -- `<bdo dir="RTL">x</bdo>` gives `<bdo dir="rtl">x</bdo>`
 abbrev pub KeepsADirection : Type 0
 KeepsADirection = valid_under default_rules (el Bdo ((codes "dir", codes "RTL") ∷ [])) ≡ el Bdo ((codes "dir", codes "rtl") ∷ [])
+
+-- `<form action="javascript:x">x</form>` gives `<form action="">x</form>`
+abbrev pub PutsAnAction : Type 0
+PutsAnAction = valid_under default_rules (el Form ((codes "action", codes "javascript:x") ∷ [])) ≡ el Form ((codes "action", []) ∷ [])
+
+-- `<form action="HTTP://example.com/" method="POST">x</form>` gives `<form action="http://example.com/" method="post">x</form>`
+abbrev pub KeepsAnAction : Type 0
+KeepsAnAction =
+    valid_under default_rules (el Form ((codes "action", codes "HTTP://example.com/") ∷ (codes "method", codes "POST") ∷ []))
+    ≡ el Form ((codes "action", codes "http://example.com/") ∷ (codes "method", codes "post") ∷ [])
+
+-- `<textarea cols="9">x</textarea>` gives `<textarea cols="9" rows="4">x</textarea>`
+abbrev pub PutsASize : Type 0
+PutsASize =
+    valid_under default_rules (el Textarea ((codes "cols", codes "9") ∷ [])) ≡ el Textarea ((codes "cols", codes "9") ∷ (codes "rows", codes "4") ∷ [])
+
+-- `<textarea>x</textarea>` gives `<textarea rows="4" cols="40">x</textarea>`
+abbrev pub PutsRowsAndColumns : Type 0
+PutsRowsAndColumns = valid_under default_rules (el Textarea []) ≡ el Textarea ((codes "rows", codes "4") ∷ (codes "cols", codes "40") ∷ [])
+
+-- `<optgroup>x</optgroup>` gives `<optgroup label="">x</optgroup>`
+abbrev pub PutsALabel : Type 0
+PutsALabel = valid_under default_rules (el Optgroup []) ≡ el Optgroup ((codes "label", []) ∷ [])
+
+-- `<input name="n">x</input>` gives `<input>x</input>`: nothing must be there
+abbrev pub PutsNothingElse : Type 0
+PutsNothingElse = valid_under default_rules (el Input ((codes "name", codes "n") ∷ [])) ≡ el Input []
 
 -- where no attributes are listed, `<bdo dir="rtl" title="t">x</bdo>` gives `<bdo dir="rtl">x</bdo>`
 abbrev pub KeepsWhatIsRequired : Type 0

@@ -4,7 +4,7 @@ use Rattle.std.specs.List.{filter_map, take_while}
 use Rattle.std.specs.Option.{option_and_then, option_map, option_map_or, option_or}
 use Rattle.pur_names.specs.Attributes.{attr_named}
 use Rattle.pur_names.specs.declared.elements.Element.{Element}
-use Rattle.pur_names.specs.declared.elements.Element.TheVariants.{A, Bdo, Div, H1, H2, H3, H4, H5, H6, Img, P, Table, Td, Th, Tr}
+use Rattle.pur_names.specs.declared.elements.Element.TheVariants.{A, Bdo, Div, Form, H1, H2, H3, H4, H5, H6, Img, Optgroup, P, Table, Td, Textarea, Th, Tr}
 use Rattle.pur_modules.specs.Groups.{is_among}
 use Rattle.pur_modules.specs.declared.kinds.Doctype.{Doctype}
 use Rattle.pur_modules.specs.declared.kinds.Doctype.TheVariants.{Strict, Transitional}
@@ -89,11 +89,15 @@ abbrev pub source_name : List Attribute → List ℕ
 source_name attrs =
     option_map_or (λ uri. last_segment uri.path) (option_and_then (λ value. uri_of (encode_utf8_all value)) (value_of attrs (codes "src"))) []
 
--- a `bdo` without a direction goes from left to right, and an `img` without a text in its place has the name of its source
--- (HTML 4.01, sections 8.2.4 and 13.8)
+-- what an element must have is put in where it is missing: a `bdo` goes from left to right, an `img` has the name of its source in
+-- its place, a `form` is sent to the page itself, a group of options has no label to show, and a field of text has four rows of
+-- forty columns (HTML 4.01, sections 8.2.4, 13.8, 17.3, 17.6 and 17.7; the values for forms are this filter's own)
 abbrev pub with_required : Element → List Attribute → List Attribute
 with_required Bdo attrs = with_new attrs (codes "dir") (codes "ltr")
 with_required Img attrs = with_new attrs (codes "alt") (source_name attrs)
+with_required Form attrs = with_new attrs (codes "action") []
+with_required Optgroup attrs = with_new attrs (codes "label") []
+with_required Textarea attrs = with_new (with_new attrs (codes "rows") (codes "4")) (codes "cols") (codes "40")
 with_required element attrs = attrs
 
 -- the attributes with those that are put in

@@ -1,6 +1,6 @@
 //! What is put in where it is missing.
 
-ghost use Rattle.std.specs.Prelude.{◌≡◌, [], OnOk};
+ghost use Rattle.std.specs.Prelude.{◌≡◌, [], OnOk, codes};
 ghost use Rattle.std.specs.Option.{option_map_or};
 ghost use Rattle.std.specs.Str.{chars};
 ghost use Rattle.pur_attrlist.specs.Attributes.{with_new};
@@ -12,8 +12,9 @@ use pur_names::Element;
 use pur_uri::{Uri, text_is_canonical, uri_is_canonical};
 use std::alloc::{AllocError, Global};
 
-/// Puts in what an element's attributes lack: the other of `lang` and `xml:lang`, the direction of a `bdo`, and the text in
-/// the place of an `img`, which is told by the URI that their `src` was read as.
+/// Puts in what an element's attributes lack: the other of `lang` and `xml:lang`, the direction of a `bdo`, the text in the
+/// place of an `img`, which is told by the URI that their `src` was read as, and what a `form`, an `optgroup` and a
+/// `textarea` must have.
 ///
 /// The error is want of memory; nothing is said of the attributes then.
 pub(crate) fn complete(
@@ -63,8 +64,29 @@ fn put_required(
             put_new(alloc, attrs, "alt", source_name(source))?;
             Ok(())
         }
+        Element::Form => {
+            put_new(alloc, attrs, "action", "")?;
+            Ok(())
+        }
+        Element::Optgroup => {
+            put_new(alloc, attrs, "label", "")?;
+            Ok(())
+        }
+        Element::Textarea => {
+            put_size(alloc, attrs)?;
+            Ok(())
+        }
         _ => Ok(()),
     }
+}
+
+// The size of a field of text.
+fn put_size(alloc: Global, attrs: &mut AttrList) -> Result<(), AllocError>
+    ensures { OnOk result (attrs.new ≡ with_new (with_new attrs.old (codes "rows") (codes "4")) (codes "cols") (codes "40")) }
+{
+    put_new(alloc, attrs, "rows", "4")?;
+    put_new(alloc, attrs, "cols", "40")?;
+    Ok(())
 }
 
 // Appends an attribute, unless there is one of its name.

@@ -6,7 +6,7 @@ ghost use Rattle.pur_settings.specs.Rules.{Rules};
 ghost use Rattle.pur_tree.specs.Nodes.{Nodes};
 ghost use Rattle.pur_uripolicy.specs.HostRules.{PlainHostRule};
 ghost use Rattle.pur_attrs.specs.Laws.{GivesValidAttributes, GivesSpellable, KeepsDistinct, LeavesValid, KeepsNodes, KeepsFree, KeepsPermitted, KeepsForests, KeepsWords, KeepsCounts};
-ghost use Rattle.pur_attrs.specs.Rows.{LeavesOutTheSecondId, PutsThePrefix, PutsThePrefixOnce, PutsThePrefixFirst, GoesInDocumentOrder, KeepsNoIdUnlessIdsAreOn, MakesANameAnId, DropsANameBesideAnId, DropsANameBesideAnUnreadId, DropsOtherNames, TellsBothLanguages, TellsTheLanguageOfXml, TellsTheLanguageAtTheEnd, PutsADirection, KeepsADirection, KeepsWhatIsRequired, KeepsWhatIsListed, ReadsValues, ReadsClasses, StylesWhatStrictLacks, StylesWhatIsBehind, StylesText, PutsStylesInFront, StylesNothingInTransitional, ReadsStylesAndLinks, DropsScripts, ReadsLinks, NamesPictures, NamesPicturesByTheLastSegment, DropsDeniedHosts, KeepsOtherHosts};
+ghost use Rattle.pur_attrs.specs.Rows.{LeavesOutTheSecondId, PutsThePrefix, PutsThePrefixOnce, PutsThePrefixFirst, GoesInDocumentOrder, KeepsNoIdUnlessIdsAreOn, MakesANameAnId, DropsANameBesideAnId, DropsANameBesideAnUnreadId, DropsOtherNames, TellsBothLanguages, TellsTheLanguageOfXml, TellsTheLanguageAtTheEnd, PutsADirection, KeepsADirection, PutsAnAction, KeepsAnAction, PutsASize, PutsRowsAndColumns, PutsALabel, PutsNothingElse, KeepsWhatIsRequired, KeepsWhatIsListed, ReadsValues, ReadsClasses, StylesWhatStrictLacks, StylesWhatIsBehind, StylesText, PutsStylesInFront, StylesNothingInTransitional, ReadsStylesAndLinks, DropsScripts, ReadsLinks, NamesPictures, NamesPicturesByTheLastSegment, DropsDeniedHosts, KeepsOtherHosts};
 
 use pur_cssprops::{styles_are_allowed, styles_are_read_as_themselves};
 use pur_uri::text_is_canonical;
@@ -96,6 +96,12 @@ pub fn worked_examples()
     ensures language_behind { TellsTheLanguageAtTheEnd }
     ensures direction { PutsADirection }
     ensures own_direction { KeepsADirection }
+    ensures action { PutsAnAction }
+    ensures own_action { KeepsAnAction }
+    ensures size { PutsASize }
+    ensures rows_and_columns { PutsRowsAndColumns }
+    ensures label { PutsALabel }
+    ensures nothing_else { PutsNothingElse }
     ensures required { KeepsWhatIsRequired }
     ensures listed { KeepsWhatIsListed }
     ensures values { ReadsValues }

@@ -27,8 +27,9 @@ use std::mem;
 /// Goes through the attributes of all elements, in document order. The `name` of an `a` or an `img` becomes its `id`, and in
 /// Strict a style stands for some attributes. Each attribute stays that the doctype declares, the settings permit and whose value
 /// is read, with what it is read as. Ids get the site's prefix, and the first of the same stays. Where a language is told, both
-/// `lang` and `xml:lang` tell it; a `bdo` without a direction goes from left to right, and an `img` without a text in its place has
-/// the name of its source. The settings and the gate decide about each URI.
+/// `lang` and `xml:lang` tell it; a `bdo` without a direction goes from left to right, an `img` without a text in its place has the
+/// name of its source, and a `form`, an `optgroup` and a `textarea` get what they must have. The settings and the gate decide about
+/// each URI.
 ///
 /// Nodes are changed where they stand. Each list of attributes is gone through a fixed number of times, and made anew once.
 ///

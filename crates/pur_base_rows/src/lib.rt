@@ -8,6 +8,10 @@ mod endings;
 #[cfg(test)]
 mod entities;
 #[cfg(test)]
+mod feeding;
+#[cfg(test)]
+mod forms;
+#[cfg(test)]
 mod io;
 #[cfg(test)]
 mod models;

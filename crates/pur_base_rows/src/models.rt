@@ -45,6 +45,16 @@ const TH: Child = Child::Elem(Element::Th);
 
 const TD: Child = Child::Elem(Element::Td);
 
+const INPUT: Child = Child::Elem(Element::Input);
+
+const OPTGROUP: Child = Child::Elem(Element::Optgroup);
+
+const OPTION: Child = Child::Elem(Element::OptionItem);
+
+const LEGEND: Child = Child::Elem(Element::Legend);
+
+const FORM: Child = Child::Elem(Element::Form);
+
 // A name, children of a table, and whether they are its parts in order.
 static TABLES: [(&str, &[Child], bool); 12] = [
     ("a_caption_a_column_and_a_row", &[CAPTION, COL, TR], true),
@@ -92,7 +102,7 @@ fn tables_have_their_parts_in_order(rt: HostRuntime) {
 }
 
 // A kind of content, children, and whether they are a word of it.
-static WORDS: [(Doctype, Content, &[Child], bool); 31] = [
+static WORDS: [(Doctype, Content, &[Child], bool); 49] = [
     (Doctype::Strict, Content::Inline, &[], true),
     (
         Doctype::Strict,
@@ -134,6 +144,39 @@ static WORDS: [(Doctype, Content, &[Child], bool); 31] = [
     (Doctype::Strict, Content::Nothing, &[], true),
     (Doctype::Strict, Content::Nothing, &[TEXT], false),
     (Doctype::Transitional, Content::Nothing, &[B], false),
+    (Doctype::Strict, Content::Inline, &[TEXT, INPUT], true),
+    (Doctype::Strict, Content::Inline, &[FORM], false),
+    (Doctype::Strict, Content::Flow, &[FORM, INPUT], true),
+    (Doctype::Strict, Content::Block, &[FORM, P], true),
+    (Doctype::Strict, Content::Block, &[INPUT], false),
+    (Doctype::Strict, Content::Options, &[OPTION, OPTGROUP], true),
+    (Doctype::Strict, Content::Options, &[], false),
+    (Doctype::Transitional, Content::Options, &[TEXT], false),
+    (Doctype::Strict, Content::OptionItems, &[OPTION], true),
+    (Doctype::Strict, Content::OptionItems, &[OPTGROUP], false),
+    (Doctype::Strict, Content::OptionItems, &[], false),
+    (Doctype::Strict, Content::TextOnly, &[], true),
+    (Doctype::Strict, Content::TextOnly, &[TEXT], true),
+    (Doctype::Transitional, Content::TextOnly, &[B], false),
+    (Doctype::Strict, Content::FieldsetMix, &[], true),
+    (
+        Doctype::Strict,
+        Content::FieldsetMix,
+        &[LEGEND, TEXT, P, B],
+        true,
+    ),
+    (
+        Doctype::Strict,
+        Content::FieldsetMix,
+        &[TEXT, LEGEND],
+        false,
+    ),
+    (
+        Doctype::Transitional,
+        Content::FieldsetMix,
+        &[LEGEND, LEGEND],
+        false,
+    ),
 ];
 
 // The first kind of content with a row that tells otherwise.

@@ -20,6 +20,15 @@ fn first_other_name() -> Option<&'static str> {
         ),
         ("an element is told", Element::Acronym.name() == "acronym"),
         (
+            "an option is read",
+            Element::from_name("option") == Some(Element::OptionItem),
+        ),
+        (
+            "an attribute of forms is read",
+            Attr::from_name("maxlength") == Some(Attr::Maxlength),
+        ),
+        ("a control is told", Element::Textarea.name() == "textarea"),
+        (
             "an attribute is read",
             Attr::from_name("xml:lang") == Some(Attr::XmlLang),
         ),
@@ -43,15 +52,21 @@ fn names_are_read_and_told(rt: HostRuntime) {
 }
 
 // A kind of content, and how many elements it has.
-static COUNTS: [(Doctype, Content, usize); 9] = [
-    (Doctype::Strict, Content::Inline, 25),
-    (Doctype::Transitional, Content::Inline, 29),
-    (Doctype::Strict, Content::Flow, 41),
-    (Doctype::Transitional, Content::Flow, 48),
-    (Doctype::Strict, Content::Block, 18),
-    (Doctype::Transitional, Content::AddressMix, 30),
+static COUNTS: [(Doctype, Content, usize); 15] = [
+    (Doctype::Strict, Content::Inline, 30),
+    (Doctype::Transitional, Content::Inline, 34),
+    (Doctype::Strict, Content::Flow, 48),
+    (Doctype::Transitional, Content::Flow, 55),
+    (Doctype::Strict, Content::Block, 20),
+    (Doctype::Transitional, Content::AddressMix, 35),
     (Doctype::Strict, Content::Items, 1),
     (Doctype::Strict, Content::TableParts, 7),
+    (Doctype::Strict, Content::Options, 2),
+    (Doctype::Transitional, Content::OptionItems, 1),
+    (Doctype::Strict, Content::TextOnly, 0),
+    (Doctype::Strict, Content::FieldsetMix, 49),
+    (Doctype::Transitional, Content::FieldsetMix, 56),
+    (Doctype::Transitional, Content::Block, 23),
     (Doctype::Strict, Content::Nothing, 0),
 ];
 

@@ -1,5 +1,5 @@
 -- Answers on what was read, and where nothing could be.
-use Rattle.std.proofs.Common.{◌≡◌, ◌≢◌, ◌⊎◌, ◌∙◌, ℕ, ◌<◌, List, length, Option, Some, None, IfSome, true, false, ap, sym, subst, inl, inr, arith, rules, ⊎_elim}
+use Rattle.std.proofs.Common.{◌≡◌, ◌≢◌, ◌⊎◌, ◌∙◌, ℕ, ◌<◌, ◌≤◌, List, length, Option, Some, None, IfSome, true, false, ap, sym, subst, inl, inr, arith, rules, ⊎_elim}
 use Rattle.std.specs.Prelude.{nat_lt, IsSome, IsSomeAnd}
 use Rattle.std.proofs.lemmas.Bool.{cases_Bool, cond-true, cond-false}
 use Rattle.std.proofs.lemmas.Option.{IfSome_then}
@@ -7,10 +7,12 @@ use Rattle.pur_io.specs.Texts.{Name, text_named}
 use Rattle.pur_settings.specs.Rules.{Rules}
 use Rattle.pur_commands.specs.Accepted.{settings_named}
 use Rattle.pur_commands.specs.Choices.{ChoseFile, ChoseSettings}
-use Rattle.pur_commands.specs.Commands.{PlainCommand, filter, check, sample, names_of}
+use Rattle.pur_commands.specs.Commands.{Names, PlainCommand, filter, check, sample, names_of}
 use Rattle.pur_commands.specs.Limits.{input_limit}
+use Rattle.pur_commands.specs.declared.status.Status.{Status}
 use Rattle.pur_commands.specs.declared.status.Status.TheVariants.{SettingsRefused, InputTooLong}
-use Rattle.pur_cli.specs.Answers.{Answer, refused, filtered, checked, answer_for, answer_to}
+use Rattle.pur_cli.specs.Answers.{Answer, refused, filtered, checked, answer_under, answer_for, answer_on, answer_to}
+use Rattle.pur_cli.specs.Private.Answering.{Gives}
 
 none_is_none : IsSome {T = Rules} None → ⊥
 none_is_none some = search (rules, some)
@@ -66,3 +68,15 @@ module _ (told : Option (List (Name × List ℕ))) where
   settings_stand (filter names) chosen said = IfSome_then told said (λ t. ⊎_elim inl (λ some. inr (for_some filtered _ _ filtered_is_none some)))
   settings_stand (check names) chosen said = IfSome_then told said (λ t. ⊎_elim inl (λ some. inr (for_some checked _ _ checked_is_none some)))
   settings_stand (sample pieces) chosen said = absurd said
+
+-- an input within its limit is worked on, under settings that were accepted
+pub worked_on : (work : Rules → List ℕ → Answer) (told : Option (List (Name × List ℕ))) (names : Names) (rules : Rules) (input : List ℕ) (status : Status)
+    (text : List ℕ)
+    → IfSome told (λ t. settings_named t names.settings ≡ Some rules) → IfSome told (λ t. input ≡ text_named t names.input)
+    → length input ≤ input_limit → Gives (work rules input) status text → IfSome told (λ t. Gives (answer_on work names t) status text)
+worked_on work None names rules input status text accepted is fits gives = tt
+worked_on work (Some t) names rules input status text accepted is fits gives =
+    let short : nat_lt input_limit (length input) ≡ false = grind (arith, fits) in
+    let worked : answer_on work names t ≡ work rules input =
+    ap (λ s. answer_for work s (text_named t names.input)) accepted ∙ ap (answer_under work rules) (sym is) ∙ cond-false _ _ _ short in
+    subst (λ (a : Answer). Gives a status text) (sym worked) gives

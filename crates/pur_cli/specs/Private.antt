@@ -1,4 +1,3 @@
 -- Definitions that serve private contracts alone: no public contract says anything by them.
-pub mod Purifications
 pub mod Answering
 pub mod Ends

@@ -9,6 +9,7 @@ use crate::purifying::filter;
 use crate::sampling::measure_sample;
 use pur_commands::{Command, Status, read_source};
 use pur_io::Shelf;
+use pur_text::Cleaner;
 use std::alloc::Global;
 
 // What a command answers.
@@ -28,11 +29,11 @@ pub fn answer_to<H: Shelf>(alloc: Global, command: Command, shelf: &mut H) -> Re
 {
     match command {
         Command::Filter { settings, input } => {
-            let source = read_source(alloc, shelf, settings, input)?;
-            Ok(filter(alloc, &source)?)
+            let source = read_source(alloc, shelf, settings, input, Cleaner::new(alloc))?;
+            Ok(filter(alloc, source)?)
         }
         Command::Check { settings, input } => {
-            let source = read_source(alloc, shelf, settings, input)?;
+            let source = read_source(alloc, shelf, settings, input, Vec::new(alloc))?;
             Ok(check(alloc, &source)?)
         }
         Command::Sample(pieces) => Ok(measure_sample(alloc, pieces)?),

@@ -15,7 +15,7 @@ use pur_uripolicy::{HostRule, UriGate, UriTest, host_rule};
 use std::alloc::{AllocError, Global};
 
 // Checks an input: the text is the word for what was found. The error is want of memory.
-pub fn check(alloc: Global, source: &Source) -> Result<Answer, AllocError>
+pub fn check(alloc: Global, source: &Source<Vec<u8>>) -> Result<Answer, AllocError>
     ensures { IfOk result (λ answer. Gives (checked source.now.settings source.now.input.items) answer.status answer.text.items) }
 {
     let status = verdict_on(alloc, &source.settings, source.input.as_slice())?;

@@ -5,9 +5,10 @@ ghost use Rattle.pur_cli.specs.Private.Answering.{Gives};
 ghost use Rattle.pur_cli.specs.Samples.{line_with};
 
 use crate::answer::Answer;
-use crate::purifying::purified_text;
+use crate::purifying::purification;
 use pur_commands::{Status, sample};
 use pur_settings::Settings;
+use pur_text::clean;
 use std::alloc::{AllocError, Global};
 
 // Measures a sample of so many pieces: the text is its line. The error is want of memory.
@@ -16,7 +17,8 @@ pub fn measure_sample(alloc: Global, pieces: u32) -> Result<Answer, AllocError>
 {
     let text = sample(alloc, pieces)?;
     let settings = Settings::defaults();
-    let output = purified_text(alloc, &settings, text.as_slice())?;
+    let cleaned = clean(alloc, text.as_slice())?;
+    let output = purification(alloc, &settings, cleaned)?;
     let line = line_of(alloc, pieces, text.as_slice(), output.as_slice())?;
     Ok(Answer {
         status: Status::Done,

@@ -5,7 +5,7 @@ use std::alloc::{AllocError, Global};
 use std::test::Fail;
 
 // A forum post that is good under the defaults, with one of its parts in another form.
-fn forum_post(alloc: Global, all: &str, line_break: &str) -> Result<String, AllocError> {
+pub(crate) fn forum_post(alloc: Global, all: &str, line_break: &str) -> Result<String, AllocError> {
     let mut post = String::new(alloc);
     for part in [
         "<p>Hello ",
@@ -98,7 +98,25 @@ fn posts_are_checked(rt: HostRuntime) -> Result<(), Fail> {
     Ok(())
 }
 
-static FRAGMENTS: [Row; 12] = [
+static FRAGMENTS: [Row; 14] = [
+    (
+        "a_form_which_no_settings_permit",
+        Some("--check --settings rules"),
+        b"",
+        b"<form></form>",
+        4,
+        b"validity\n",
+        "",
+    ),
+    (
+        "an_element_of_no_table",
+        Some("--check --settings rules"),
+        b"",
+        b"<forms></forms>",
+        3,
+        b"spelling\n",
+        "",
+    ),
     (
         "nothing",
         Some("--check --settings rules"),

@@ -7,6 +7,8 @@ mod checks;
 #[cfg(test)]
 mod noting;
 #[cfg(test)]
+mod pieces;
+#[cfg(test)]
 mod program;
 #[cfg(test)]
 mod running;

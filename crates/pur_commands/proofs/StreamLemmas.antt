@@ -1,9 +1,9 @@
-use Rattle.std.proofs.Common.{◌≡◌, ℕ, ◌+◌, ◌-◌, ◌≤◌, min, List, ◌++◌, length, take, drop, Option, Some, None, Result, Ok, Err, OnOk, OnErr, IfSome, refl, ap, sym, ◌∙◌, arith, append_assoc, length-append, length-drop, subst}
+use Rattle.std.proofs.Common.{◌≡◌, ℕ, ◌+◌, ◌-◌, ◌≤◌, min, List, ◌++◌, length, take, drop, Option, Some, None, Result, Ok, Err, OnOk, OnErr, is_err, false, true≢false, IfSome, refl, ap, sym, ◌∙◌, arith, append_assoc, length-append, length-drop, subst}
 use Rattle.std.proofs.Math.Seq.{take-add}
 use Rattle.std.proofs.lemmas.List.{take_rest, take_all, length-take-le, length-take}
 use Rattle.pur_io.specs.Taken.{taken_more}
 use Rattle.pur_io.specs.Texts.{Name, text_chosen, ReadsAt}
-use Rattle.pur_commands.specs.Private.Reading.{ReadSoFar}
+use Rattle.pur_commands.specs.Private.Reading.{ReadSoFar, TakenSoFar}
 use Rattle.pur_commands.specs.Writing.{TookFront}
 
 -- what is taken in two pieces
@@ -43,8 +43,25 @@ read_step (Some ts) chosen now place next n bytes into new c m e old step =
       within = omega (arith, size, s.within, length-drop place text, old.here, old.within);
     }
 
+-- what took these bytes takes the next ones
+pub taken_on : (took took' : List ℕ → Type 0) (texts : Option (List (Name × List ℕ))) (chosen now : Option Name) (place next n count : ℕ) (into piece : List ℕ)
+    → now ≡ chosen → n ≤ length into → piece ≡ take n into → ((bytes : List ℕ) → took bytes → took' (bytes ++ piece))
+    → TakenSoFar took texts (λ ts. text_chosen ts chosen) place count
+    → IfSome texts (λ ts. ReadsAt (text_chosen ts now) place next n into)
+    → TakenSoFar took' texts (λ ts. text_chosen ts chosen) next (count + n)
+taken_on took took' texts chosen now place next n count into piece same fits is step old reads = record {
+  bytes = old.bytes ++ piece;
+  took_them = step old.bytes old.took_them;
+  counted = omega (arith, old.counted, length-append old.bytes piece, ap length is, length-take-le n into fits);
+  read = read_step texts chosen now place next n old.bytes into (old.bytes ++ piece) same fits (ap (λ t. old.bytes ++ t) is) old.read reads;
+}
+
+-- what is said where a call succeeds is so where it didn't fail
+pub succeeded : {T E P : Type 0} (r : Result T E) → is_err r ≡ false → OnOk r P → P
+succeeded (Ok x) fine said = said
+succeeded (Err e) fine said = absurd (true≢false fine)
+
 -- no more is read than one byte past the limit
-pub read_small : (bytes into new buffer : List ℕ) (n want room limit : ℕ) → new ≡ bytes ++ take n into → n ≤ length into
-    → length into ≡ length (take want buffer) → want ≡ min (limit + 1 - length bytes) room → length bytes ≤ limit → length new ≤ limit + 1
-read_small bytes into new buffer n want room limit e m size w small =
-    omega (arith, ap length e, length-append bytes (take n into), length-take-le n into m, length-take want buffer)
+pub read_small : (into buffer : List ℕ) (n count want room limit : ℕ) → n ≤ length into
+    → length into ≡ length (take want buffer) → want ≡ min (limit + 1 - count) room → count ≤ limit → count + n ≤ limit + 1
+read_small into buffer n count want room limit fits size is few = omega (arith, fits, size, is, few, length-take want buffer)

@@ -1,3 +1,4 @@
+pub mod Intakes
 pub mod Limits
 pub mod Commands
 pub mod Words

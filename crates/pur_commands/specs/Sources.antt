@@ -12,9 +12,12 @@ use Rattle.pur_commands.specs.Statuses.{IsEarly}
 use Rattle.pur_commands.specs.declared.status.Status.{Status}
 use Rattle.pur_commands.specs.declared.status.Status.TheVariants.{SettingsRefused, InputTooLong, CannotRead, OutOfMemory}
 
--- accepted settings and an input within its limit were read: they are those that names give, and no fault was counted
-pub record IsSource {H : Type 0} (h : Ghosts H) (names : Names) (texts : Option (List (Name × List ℕ))) (faults : ℕ) (after : H)
-    (rules : Rules) (input : List ℕ) : Type 0 where
+-- accepted settings and an input within its limit were read: they are those that names give, and no fault was counted. What took the
+-- input took these bytes
+pub record IsSource {H : Type 0} (h : Ghosts H) (took : List ℕ → Type 0) (names : Names) (texts : Option (List (Name × List ℕ))) (faults : ℕ)
+    (after : H) (rules : Rules) : Type 0 where
+  pub input : List ℕ
+  pub took_them : took input
   pub settings : IfSome texts (λ t. settings_named t names.settings ≡ Some rules)
   pub input_is : IfSome texts (λ t. input ≡ text_named t names.input)
   pub small : length input ≤ input_limit

@@ -16,4 +16,5 @@ pub use output::{complain, write_all};
 pub use samples::sample;
 pub use source::{Source, read_source};
 pub use status::Status;
+pub use texts::Intake;
 pub use words::read_words;

@@ -1,7 +1,7 @@
 use Rattle.std.proofs.Common.{◌≡◌, ◌≤◌, ◌+◌, ℕ, List, refl, sym, ap, ◌∙◌, true, arith, length}
 use Rattle.std.proofs.lemmas.Bool.{and_parts}
 use Rattle.pur_modules.specs.declared.kinds.Content.{Content}
-use Rattle.pur_modules.specs.declared.kinds.Content.TheVariants.{Inline, Flow, Block, AddressMix, Items, Pairs, TableParts, Rows, Cells, Cols, Nothing}
+use Rattle.pur_modules.specs.declared.kinds.Content.TheVariants.{Flow, Inline}
 use Rattle.pur_models.specs.Laws.{takes_any_number}
 use Rattle.pur_settings.specs.Prefixes.{begins_an_id, is_id_prefix}
 use Rattle.pur_settings.specs.Rules.{is_for_fragments}
@@ -37,12 +37,4 @@ prefix_begins text form = (and_parts (nat_le (length text) 64) (begins_an_id tex
 pub takes_any : (content : Content) → is_for_fragments content ≡ true → takes_any_number content ≡ true
 takes_any Flow kind = refl
 takes_any Inline kind = refl
-takes_any Block kind = refl
-takes_any AddressMix kind = refl
-takes_any Cols kind = refl
-takes_any Items kind = kind
-takes_any Pairs kind = kind
-takes_any TableParts kind = kind
-takes_any Rows kind = kind
-takes_any Cells kind = kind
-takes_any Nothing kind = kind
+takes_any content kind = absurd (cc)

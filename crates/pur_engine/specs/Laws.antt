@@ -1,5 +1,5 @@
 -- What is said of purifications, and of what each pass does to a good fragment.
-use Rattle.std.specs.Prelude.{ℕ, ◌≡◌, List, map, IsTrue, encode_utf8_all}
+use Rattle.std.specs.Prelude.{ℕ, ◌≡◌, false, List, map, IsTrue, encode_utf8_all}
 use Rattle.pur_text.specs.Cleaning.{cleaned}
 use Rattle.pur_lexer.specs.Lexing.{tokens_of}
 use Rattle.pur_settings.specs.Prefixes.{begins_an_id}
@@ -20,9 +20,11 @@ use Rattle.pur_attrs.specs.Attributes.{with_valid_attributes}
 use Rattle.pur_engine.specs.Ledger.{AddsNoText, KeepsLedger}
 use Rattle.pur_engine.specs.Purified.{nested_tree, purified, purified_nodes}
 
--- what holds under every settings that a settings text can give: their parent holds a fragment, and their prefix begins an id
+-- what holds under every settings that a settings text can give: their parent holds a fragment, their prefix begins an id, and no
+-- element of forms may stand in the output
 abbrev pub UnderSettings : (Rules → Type 0) → Type 0
-UnderSettings holds = (rules : Rules) → IsTrue (is_for_fragments rules.parent) → IsTrue (begins_an_id rules.id_prefix) → holds rules
+UnderSettings holds =
+    (rules : Rules) → IsTrue (is_for_fragments rules.parent) → IsTrue (begins_an_id rules.id_prefix) → rules.forms ≡ false → holds rules
 
 -- the purification of every input under all settings is good
 abbrev pub PurifiedIsGood : Type 0

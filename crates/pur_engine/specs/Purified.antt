@@ -38,6 +38,10 @@ injected_tree rules rule text = injected rules rule (nested_tree rules rule text
 abbrev pub purified_nodes : Rules → PlainHostRule → List ℕ → Nodes
 purified_nodes rules rule text = with_valid_attributes rules rule (injected_tree rules rule text)
 
--- the purification of an input under settings and a rule of hosts: the spelling of the fragment that its cleaned text becomes, as UTF-8
+-- the purification of a cleaned text under settings and a rule of hosts: the spelling of the fragment that it becomes, as UTF-8
+abbrev pub purified_text : Rules → PlainHostRule → List ℕ → List ℕ
+purified_text rules rule text = encode_utf8_all (spelling_of (purified_nodes rules rule text))
+
+-- the purification of an input: that of its cleaned text
 unfoldable pub purified : Rules → PlainHostRule → List ℕ → List ℕ
-purified rules rule input = encode_utf8_all (spelling_of (purified_nodes rules rule (cleaned input)))
+purified rules rule input = purified_text rules rule (cleaned input)

@@ -1,6 +1,6 @@
 //! What is known of trees and fragments on the way from a cleaned text to its purification, each the contract of a function
 //! that does nothing.
-ghost use Rattle.std.specs.Prelude.{ℕ, List, IsTrue};
+ghost use Rattle.std.specs.Prelude.{ℕ, ◌≡◌, false, List, IsTrue};
 ghost use Rattle.std.specs.List.{list_all};
 ghost use Rattle.pur_settings.specs.Prefixes.{begins_an_id};
 ghost use Rattle.pur_settings.specs.Rules.{Rules, is_for_fragments};
@@ -20,7 +20,7 @@ use pur_inject::{
 };
 use pur_lexer::{tokens_are_allowed, tokens_are_distinct, tokens_are_joined};
 use pur_nesting::{
-    gives_a_word, gives_words, joins_texts, keeps_allowed, keeps_pictures, never_more,
+    gives_a_word, gives_all_words, joins_texts, keeps_allowed, keeps_pictures, never_more,
 };
 use pur_tree::{counts_alike, has_spelling};
 use pur_wellform::{
@@ -43,12 +43,12 @@ pub(crate) fn trees_are_closed()
 
 /// What nesting repair leaves of a text of allowed characters is valid once its attributes are.
 pub(crate) fn nested_is_ready()
-    ensures { (rules : Rules) (rule : PlainHostRule) (text : List ℕ) → IsTrue (is_for_fragments rules.parent) → IsTrue (list_all is_allowed text)
-        → AreReady rules rule (nested_tree rules rule text) }
+    ensures { (rules : Rules) (rule : PlainHostRule) (text : List ℕ) → IsTrue (is_for_fragments rules.parent) → rules.forms ≡ false
+        → IsTrue (list_all is_allowed text) → AreReady rules rule (nested_tree rules rule text) }
 {
     trees_are_closed();
     gives_a_word();
-    gives_words();
+    gives_all_words();
     pur_nesting::keeps_free();
     pur_nesting::keeps_permitted();
     pur_nesting::keeps_forests();
@@ -68,8 +68,8 @@ pub(crate) fn nested_is_ready()
 
 /// And so is that with links and paragraphs.
 pub(crate) fn injected_is_ready()
-    ensures { (rules : Rules) (rule : PlainHostRule) (text : List ℕ) → IsTrue (is_for_fragments rules.parent) → IsTrue (list_all is_allowed text)
-        → AreReady rules rule (injected_tree rules rule text) }
+    ensures { (rules : Rules) (rule : PlainHostRule) (text : List ℕ) → IsTrue (is_for_fragments rules.parent) → rules.forms ≡ false
+        → IsTrue (list_all is_allowed text) → AreReady rules rule (injected_tree rules rule text) }
 {
     nested_is_ready();
     links_keep();
@@ -81,7 +81,7 @@ pub(crate) fn injected_is_ready()
 /// What a text of allowed characters becomes is valid, and its spelling can be read back.
 pub(crate) fn fragments_are_good()
     ensures { (rules : Rules) (rule : PlainHostRule) (text : List ℕ) → IsTrue (is_for_fragments rules.parent) → IsTrue (begins_an_id rules.id_prefix)
-        → IsTrue (list_all is_allowed text) → FragmentIsGood rules rule text }
+        → rules.forms ≡ false → IsTrue (list_all is_allowed text) → FragmentIsGood rules rule text }
 {
     injected_is_ready();
     gives_valid_attributes();

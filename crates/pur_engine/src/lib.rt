@@ -11,4 +11,4 @@ pub use laws::{
     nesting_leaves_good, purified_adds_no_text, purified_is_good, purified_keeps_ledger,
     purified_once, removal_leaves_good, spelled_is_cleaned, spelled_is_read,
 };
-pub use passes::purify;
+pub use passes::{purify, purify_text};

@@ -1,5 +1,5 @@
 //! The passes in a row: from the bytes of an input to the bytes of its purification.
-ghost use Rattle.std.specs.Prelude.{◌≡◌, ◌++◌, [], List, true, IfOk, IsTrue, OnOk};
+ghost use Rattle.std.specs.Prelude.{◌≡◌, ◌++◌, [], List, ℕ, true, string_bytes, IfOk, IsTrue, OnOk};
 ghost use Rattle.std.specs.List.{list_all};
 ghost use Rattle.std.specs.Str.{chars};
 ghost use Rattle.pur_lexer.specs.Lexing.{tokens_of};
@@ -14,7 +14,9 @@ ghost use Rattle.pur_wellform.specs.Progress.{closed_behind};
 ghost use Rattle.pur_wellform.specs.Standing.{can_be_closed};
 ghost use Rattle.pur_inject.specs.Injected.{injects_nothing};
 ghost use Rattle.pur_engine.specs.Ledger.{AddsNoText, KeepsLedger};
-ghost use Rattle.pur_engine.specs.Purified.{closed_tags, purified};
+ghost use Rattle.pur_text.specs.Cleaning.{cleaned};
+ghost use Rattle.pur_engine.specs.Purifications.{IsPurification};
+ghost use Rattle.pur_engine.specs.Purified.{closed_tags, purified, purified_text};
 ghost use Rattle.pur_engine.specs.Spelled.{IsSpelled};
 ghost use Rattle.pur_validity.specs.Goodness.{IsGood};
 ghost use Rattle.pur_tree.specs.Forests.{IsForest};
@@ -59,17 +61,58 @@ pub fn purify<F: UriTest>(
     ensures unchanged { IfOk result (λ text. IsTrue (injects_nothing settings.now) → IsGood settings.now gate.now bytes.now → text.items ≡ bytes.now) }
     ensures twice { IfOk result (λ text. purified settings.now gate.now text.items ≡ text.items) }
 {
+    let text = clean_if_needed(alloc, bytes)?;
+    let forest = closed_tree(alloc, settings, gate, text.as_str())?;
+    drop(text);
+    let output = finished(alloc, settings, gate, forest)?;
+    Ok(output)
+}
+
+/// The purification of a text that was cleaned before, as a `pur_text::Cleaner` gives it: what `purify` makes of each input that is
+/// cleaned to it, with all that is promised of that. The text is let go before the fragment is repaired.
+///
+/// No input is cleaned to a text with characters that cleaning drops; of such a text nothing is promised but how its fragment is spelled.
+/// The error is want of memory.
+pub fn purify_text<F: UriTest>(
+    alloc: Global,
+    settings: &Settings,
+    gate: &UriGate<F>,
+    text: String,
+) -> Result<Vec<u8>, AllocError>
+    ensures text { IfOk result (λ output. output.items ≡ purified_text settings.now gate.now (chars (string_bytes text))) }
+    ensures inputs { IfOk result (λ output. (input : List ℕ) → cleaned input ≡ chars (string_bytes text) →
+        IsPurification settings.now gate.now input output.items) }
+{
+    let forest = closed_tree(alloc, settings, gate, text.as_str())?;
+    drop(text);
+    let output = finished(alloc, settings, gate, forest)?;
+    Ok(output)
+}
+
+// The output for a fragment in which all elements were closed.
+fn finished<F: UriTest>(
+    alloc: Global,
+    settings: &Settings,
+    gate: &UriGate<F>,
+    forest: Forest,
+) -> Result<Vec<u8>, AllocError>
+    requires { IsForest (nodes_of forest) }
+    ensures text { IfOk result (λ output. (text : List ℕ) → IsTreeOf (nodes_of forest) (closed_tags settings.now gate.now text) →
+        output.items ≡ purified_text settings.now gate.now text) }
+    ensures inputs { IfOk result (λ output. (input : List ℕ) → IsTreeOf (nodes_of forest) (closed_tags settings.now gate.now (cleaned input)) →
+        IsPurification settings.now gate.now input output.items) }
+{
     purified_is_good();
     purified_adds_no_text();
     purified_keeps_ledger();
     purified_once();
     good_is_kept();
-    // whatever the settings are, their clauses say that a fragment takes any number of what it may hold, and that the prefix
-    // begins an id
+    // whatever the settings are, their clauses say that a fragment takes any number of what it may hold, that the prefix
+    // begins an id, and that no element of forms may stand in the output
     let _ = settings.parent();
     let _ = settings.id_prefix();
-    let text = clean_if_needed(alloc, bytes)?;
-    let mut forest = closed_tree(alloc, settings, gate, text.as_str())?;
+    let _ = settings.forms();
+    let mut forest = forest;
     fix_nesting(alloc, settings, &mut forest)?;
     linkify(alloc, settings, gate, &mut forest)?;
     auto_paragraph(alloc, settings, &mut forest)?;

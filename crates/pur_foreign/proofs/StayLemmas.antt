@@ -60,7 +60,7 @@ stands-same Transitional e has = record { element = refl; attributes = λ attrs.
 
 module _ (rules : Rules) (rule : PlainHostRule) where
   itself : (e : Element) → permits_element rules e ≡ true → StandsForItself rules.doctype e
-  itself e permitted = stands-same rules.doctype e (and_parts (is_among (elements_of rules.doctype) e) (is_listed rules.elements rules.denied_elements (same_element e)) permitted).0
+  itself e permitted = stands-same rules.doctype e (and_parts (is_among (elements_of rules.doctype) e) _ permitted).0
 
   -- a tag that is no picture's, or has a source that may be embedded, is admitted
   good-admitted : (e : Element) (attrs : List Attribute) → is_good_tag (has_source rules rule) (element_name e) attrs ≡ true → is_admitted rules rule e attrs ≡ true

@@ -208,7 +208,7 @@ module _ (admits : List ℕ → Bool) where
           signs-left d admits at (with_runs (stands_in_paragraphs d) wrapped_run marked) all.0 all.1
 
 -- a `div` takes links
-flow-takes : (d : Doctype) → is_letter d Flow (Elem A) ≡ true
+pub flow-takes : (d : Doctype) → is_letter d Flow (Elem A) ≡ true
 unfolding child_letters
 flow-takes Strict = refl
 flow-takes Transitional = refl

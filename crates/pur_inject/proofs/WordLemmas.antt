@@ -1,26 +1,26 @@
 -- Words stay words.
-use Rattle.std.proofs.Common.{◌≡◌, ℕ, Bool, true, false, not, ◌&&◌, ◌||◌, List, [], ◌∷◌, ◌++◌, refl, sym, ap, subst, ◌∙◌}
+use Rattle.std.proofs.Common.{◌≡◌, ◌⊎◌, inl, inr, ℕ, Bool, true, false, not, ◌&&◌, ◌||◌, List, [], ◌∷◌, ◌++◌, refl, sym, ap, subst, ◌∙◌, arith}
 use Rattle.std.specs.Prelude.{if◌then◌else◌}
 use Rattle.std.specs.List.{list_all}
 use Rattle.std.proofs.lemmas.Bool.{and_parts, and_from}
 use Rattle.pur_text.specs.Characters.{is_blank}
 use Rattle.pur_names.specs.declared.elements.Element.{Element}
-use Rattle.pur_names.specs.declared.elements.Element.TheVariants.{A, P}
+use Rattle.pur_names.specs.declared.elements.Element.TheVariants.{A, Legend, P}
 use Rattle.pur_names.specs.Elements.{all_elements}
 use Rattle.pur_names.proofs.ElementLaws.{each_element}
 use Rattle.pur_modules.specs.declared.kinds.Child.{Child}
 use Rattle.pur_modules.specs.declared.kinds.Child.TheVariants.{Text, Elem}
 use Rattle.pur_modules.specs.declared.kinds.Content.{Content}
-use Rattle.pur_modules.specs.declared.kinds.Content.TheVariants.{Inline, Flow}
+use Rattle.pur_modules.specs.declared.kinds.Content.TheVariants.{AddressMix, Block, Cols, FieldsetMix, Flow, Inline, TextOnly}
 use Rattle.pur_modules.specs.declared.kinds.Doctype.{Doctype}
 use Rattle.pur_modules.specs.declared.kinds.Doctype.TheVariants.{Strict, Transitional}
 use Rattle.pur_modules.specs.Contents.{content_held}
-use Rattle.pur_modules.specs.Expressions.{is_letter, has_text_letter, child_letters}
+use Rattle.pur_modules.specs.Expressions.{child_letters, elems, has_text_letter, is_letter, optional}
 use Rattle.pur_modules.specs.Groups.{is_among, inline, misc}
 use Rattle.pur_modules.proofs.KindLaws.{each_kind}
-use Rattle.pur_models.specs.Languages.{Language}
-use Rattle.pur_models.specs.Laws.{takes_any_number}
-use Rattle.pur_models.proofs.WordLemmas.{any_letters, words_are_allowed}
+use Rattle.pur_models.specs.Languages.{IsRun, Language, all_among, has_letter}
+use Rattle.pur_models.specs.Laws.{IsFieldsetWord, takes_any_number}
+use Rattle.pur_models.proofs.WordLemmas.{any_letters, fieldset_of_parts, parts_of_fieldset, words_are_allowed}
 use Rattle.pur_settings.specs.Rules.{Rules}
 use Rattle.pur_uripolicy.specs.HostRules.{PlainHostRule}
 use Rattle.pur_tree.specs.Nodes.{PlainElem, bare, Nodes, no_nodes, text_first, elem_first, nodes_append}
@@ -35,22 +35,34 @@ use Rattle.pur_inject.specs.declared.places.LinkPlace.{LinkPlace}
 use Rattle.pur_inject.proofs.LinkKeepLemmas.{takes}
 use Rattle.pur_inject.proofs.LinkLemmas.{text-each}
 use Rattle.pur_inject.proofs.ParagraphKeepLemmas.{each-in}
-use Rattle.pur_inject.proofs.ParagraphLinkLemmas.{flow-on, held-same}
+use Rattle.pur_inject.proofs.ParagraphLinkLemmas.{flow-on, flow-takes, held-same}
 use Rattle.pur_inject.proofs.RunLemmas.{Each, each-append}
 use Rattle.pur_inject.proofs.SignLemmas.{letters-each}
 
 -- ---- tables
 
--- where an `a` is a letter, so is text, and any number of letters may stand
-abbrev link-kind : Doctype → Content → Bool
-link-kind d k = not (is_letter d k (Elem A)) || (takes_any_number k && has_text_letter d k)
+-- where an `a` is a letter, so is text
+abbrev has-link-text : Doctype → Content → Bool
+has-link-text d k = not (is_letter d k (Elem A)) || has_text_letter d k
 
-link-kinds : (d : Doctype) (k : Content) → link-kind d k ≡ true
+link-texts : (d : Doctype) (k : Content) → has-link-text d k ≡ true
 unfolding child_letters has_text_letter
-link-kinds d k = each_kind link-kind refl d k
+link-texts d k = each_kind has-link-text refl d k
 
-kind-of-link : (d : Doctype) (k : Content) → is_letter d k (Elem A) ≡ true → (takes_any_number k ≡ true) × (has_text_letter d k ≡ true)
-kind-of-link d k is = and_parts (takes_any_number k) (has_text_letter d k) (subst (λ b. (not b || (takes_any_number k && has_text_letter d k)) ≡ true) is (link-kinds d k))
+text-beside-link : (d : Doctype) (k : Content) → is_letter d k (Elem A) ≡ true → has_text_letter d k ≡ true
+text-beside-link d k is = subst (λ b. (not b || has_text_letter d k) ≡ true) is (link-texts d k)
+
+-- and any number of letters may stand, or the kind is what a fieldset holds
+kind-of-link : (d : Doctype) (k : Content) → is_letter d k (Elem A) ≡ true → (takes_any_number k ≡ true) ⊎ (k ≡ FieldsetMix)
+unfolding child_letters
+kind-of-link d Inline is = inl refl
+kind-of-link d Flow is = inl refl
+kind-of-link d Block is = inl refl
+kind-of-link d AddressMix is = inl refl
+kind-of-link d Cols is = inl refl
+kind-of-link d TextOnly is = inl refl
+kind-of-link d FieldsetMix is = inr refl
+kind-of-link d k is = absurd (cc)
 
 held-by-link : (d : Doctype) (k : Content) → content_held d A k ≡ Inline
 unfolding content_held
@@ -87,6 +99,14 @@ letter-in-paragraph : (d : Doctype) (e : Element) → is_in_paragraphs d e ≡ t
 letter-in-paragraph d e is =
     let among = (and_parts (is_among (inline d) e) (not (is_among misc e)) is).0 in
     subst (λ b. (not b || is_letter d Inline (Elem e)) ≡ true) among (each_element (inline-letter d) (inline-letters d) e)
+
+-- ---- equal words
+
+first-same : {c x : Child} {l m : List Child} → (c ∷ l) ≡ (x ∷ m) → c ≡ x
+first-same same = cc
+
+rest-same : {c x : Child} {l m : List Child} → (c ∷ l) ≡ (x ∷ m) → l ≡ m
+rest-same same = cc
 
 -- ---- nodes and signs whose elements are letters, and hold words
 
@@ -158,24 +178,55 @@ module _ (d : Doctype) (admits : List ℕ → Bool) where
       ∙ ap (λ (w : List Child). if not t && is_blank s then w else (Text ∷ w)) (same-word at t n isnt)
   same-word at t (elem_first e kids n) isnt = ap (λ (w : List Child). Elem e.name ∷ w) (same-word at t n isnt)
 
-  -- and where one may, all are letters still
-  linked-letters : (at : LinkPlace) (n : Nodes) → is_letter d at.content (Elem A) ≡ true → has_text_letter d at.content ≡ true
-      → list_all (is_letter d at.content) (word_of true n) ≡ true → list_all (is_letter d at.content) (word_of true (linked d admits at n)) ≡ true
-  linked-letters at no_nodes is text all = refl
-  linked-letters at (text_first s n) is text all = go (takes_links d at) (linked-letters at n is text (and_parts (is_letter d at.content Text) (list_all (is_letter d at.content) (word_of true n)) all).1) where
-    go : (b : Bool) → list_all (is_letter d at.content) (word_of true (linked d admits at n)) ≡ true → list_all (is_letter d at.content) (word_of true (nodes_append (if b then linked_text admits s else text_first s no_nodes) (linked d admits at n))) ≡ true
-    go true more = list-append d at.content (linked_text admits s) (linked d admits at n) (text-letters at.content s is text).0 more
+  -- where an `a` is a letter all are letters still
+  linked-letters : (at : LinkPlace) (k : Content) (n : Nodes) → is_letter d k (Elem A) ≡ true → has_text_letter d k ≡ true
+      → list_all (is_letter d k) (word_of true n) ≡ true → list_all (is_letter d k) (word_of true (linked d admits at n)) ≡ true
+  linked-letters at k no_nodes is text all = refl
+  linked-letters at k (text_first s n) is text all = go (takes_links d at) (linked-letters at k n is text (and_parts (is_letter d k Text) (list_all (is_letter d k) (word_of true n)) all).1) where
+    go : (b : Bool) → list_all (is_letter d k) (word_of true (linked d admits at n)) ≡ true → list_all (is_letter d k) (word_of true (nodes_append (if b then linked_text admits s else text_first s no_nodes) (linked d admits at n))) ≡ true
+    go true more = list-append d k (linked_text admits s) (linked d admits at n) (text-letters k s is text).0 more
     go false more = and_from _ _ text more
-  linked-letters at (elem_first e kids n) is text all = let both = and_parts _ _ all in and_from _ _ both.0 (linked-letters at n is text both.1)
+  linked-letters at k (elem_first e kids n) is text all = let both = and_parts _ _ all in and_from _ _ both.0 (linked-letters at k n is text both.1)
+
+  -- a legend of a fieldset stays in front of what are letters of flow content still
+  linked-fieldset : (at : LinkPlace) (n : Nodes) → IsFieldsetWord d (word_of true n) → IsFieldsetWord d (word_of true (linked d admits at n))
+  linked-fieldset at n f = go n f.legends f.legend_run f.joined where
+    behind : (legends : List Child) (m : Nodes) → IsRun (optional Legend) legends → word_of true m ≡ f.rest → IsFieldsetWord d (legends ++ word_of true (linked d admits at m))
+    behind legends m run same =
+        let flow = subst (λ w. list_all (is_letter d Flow) w ≡ true) (sym same) (words_are_allowed d Flow f.rest f.flow) in record {
+          legends = legends;
+          rest = word_of true (linked d admits at m);
+          legend_run = run;
+          flow = any_letters d Flow (word_of true (linked d admits at m)) refl (linked-letters at Flow m (flow-takes d) (flow-text d) flow);
+          joined = refl;
+        }
+
+    go : (m : Nodes) (legends : List Child) → IsRun (optional Legend) legends → word_of true m ≡ legends ++ f.rest → IsFieldsetWord d (word_of true (linked d admits at m))
+    go m [] run same = behind [] m run same
+    go no_nodes (c ∷ legends) run same = absurd (cc)
+    go (text_first s m) (c ∷ legends) run same =
+        let legend = (and_parts (has_letter (elems (Legend ∷ [])) c) (all_among (elems (Legend ∷ [])) legends) run.letters).0 in
+        let never : has_letter (elems (Legend ∷ [])) Text ≡ true = subst (λ x. has_letter (elems (Legend ∷ [])) x ≡ true) (sym (first-same same)) legend in absurd (cc)
+    go (elem_first e kids m) (c ∷ []) run same =
+        subst (λ x. IsFieldsetWord d (x ∷ word_of true (linked d admits at m))) (sym (first-same same)) (behind (c ∷ []) m run (rest-same same))
+    go m (c ∷ x ∷ legends) run same = let most = run.most refl in absurd (omega (arith, most))
+
+  linked-in-kind : (at : LinkPlace) (k : Content) (n : Nodes) → is_letter d k (Elem A) ≡ true → (takes_any_number k ≡ true) ⊎ (k ≡ FieldsetMix)
+      → Language d k (word_of true n) → Language d k (word_of true (linked d admits at n))
+  linked-in-kind at k n is (inl any) word =
+      any_letters d k (word_of true (linked d admits at n)) any (linked-letters at k n is (text-beside-link d k is) (words_are_allowed d k (word_of true n) word))
+  linked-in-kind at k n is (inr mix) word =
+      let parts = parts_of_fieldset d (word_of true n) (subst (λ x. Language d x (word_of true n)) mix word) in
+      subst (λ x. Language d x (word_of true (linked d admits at n))) (sym mix) (fieldset_of_parts d (word_of true (linked d admits at n)) (linked-fieldset at n parts))
 
   linked-word : (at : LinkPlace) (n : Nodes) → IsWord d at.content n → IsWord d at.content (linked d admits at n)
   linked-word at n word = go (takes_links d at) refl where
     go : (b : Bool) → takes_links d at ≡ b → IsWord d at.content (linked d admits at n)
     go true is =
         let is_in = (takes d at is).letter in
-        let kind = kind-of-link d at.content is_in in
-        subst (λ t. Language d at.content (word_of t (linked d admits at n))) (sym kind.1)
-        (any_letters d at.content (word_of true (linked d admits at n)) kind.0 (linked-letters at n is_in kind.1 (from-word d at.content n kind.1 word)))
+        let text = text-beside-link d at.content is_in in
+        subst (λ t. Language d at.content (word_of t (linked d admits at n))) (sym text)
+        (linked-in-kind at at.content n is_in (kind-of-link d at.content is_in) (subst (λ t. Language d at.content (word_of t n)) text word))
     go false isnt = subst (Language d at.content) (sym (same-word at (has_text_letter d at.content) n isnt)) word
 
   linked-words : (at : LinkPlace) (n : Nodes) → HaveWords d at.content n → HaveWords d at.content (linked d admits at n)
@@ -184,7 +235,7 @@ module _ (d : Doctype) (admits : List ℕ → Bool) where
     go : (b : Bool) → takes_links d at ≡ b → HaveWords d at.content (linked d admits at n) → HaveWords d at.content (nodes_append (if b then linked_text admits s else text_first s no_nodes) (linked d admits at n))
     go true is more =
         let is_in = (takes d at is).letter in
-        have-append d at.content (linked_text admits s) (linked d admits at n) (text-letters at.content s is_in (kind-of-link d at.content is_in).1).1 more
+        have-append d at.content (linked_text admits s) (linked d admits at n) (text-letters at.content s is_in (text-beside-link d at.content is_in)).1 more
     go false isnt more = more
   linked-words at (elem_first e kids n) words = (
     linked-word (link_place_inside d at e.name) kids words.0,

@@ -87,6 +87,19 @@ pub(crate) fn may_be_linked<F: UriTest>(
     Ok(uri.is_some())
 }
 
+/// How many addresses a text has at most: each begins with its prefix.
+pub(crate) fn prefix_count(text: &str) -> usize {
+    let mut count = 0usize;
+    let mut rest = text.as_bytes();
+    'counting: while let [_, behind @ ..] = rest {
+        if begins_address(rest) {
+            count = count.saturating_add(1);
+        }
+        rest = behind;
+    }
+    count
+}
+
 /// Whether a text has no colon: then no address begins in it.
 pub(crate) fn is_colonless(text: &str) -> bool
     ensures colonless { result ≡ true → is_colonless (chars text.now) ≡ true }

@@ -32,6 +32,16 @@ impl Growing {
         }
     }
 
+    /// No nodes, and room for so many. A list that grows long without leaves holes where it stood before it grew.
+    pub(crate) fn with_room(alloc: Global, room: usize) -> Result<Growing, AllocError>
+        ensures nodes { IfOk result (λ growing. growing.nodes.items ≡ []) }
+        ensures text { IfOk result (λ growing. string_bytes growing.text ≡ []) }
+    {
+        let nodes = Vec::with_capacity(alloc, room)?;
+        let text = String::new(alloc);
+        Ok(Growing { nodes, text })
+    }
+
     /// Puts a text behind the nodes.
     pub(crate) fn put_text(&mut self, text: &str) -> Result<(), AllocError>
         ensures { OnOk result ((more : Nodes) → grown self.new more ≡ grown self.old (signs_before (letters (chars text.now)) more)) }

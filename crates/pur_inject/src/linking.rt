@@ -13,7 +13,7 @@ ghost use Rattle.pur_inject.specs.Private.Cutting.{are_colonless, says};
 ghost use Rattle.pur_inject.specs.Private.Growing.{grown};
 ghost use Rattle.pur_inject.specs.Private.Linking.{linked_inside, texts_linked, texts_linked_at};
 
-use crate::addresses::{address_in, is_colonless, may_be_linked};
+use crate::addresses::{address_in, is_colonless, may_be_linked, prefix_count};
 use crate::growing::Growing;
 use crate::places::LinkPlace;
 use crate::runs::{Sort, cut_run};
@@ -167,7 +167,7 @@ fn texts_linked<F: UriTest>(
 ) -> Result<Vec<Node>, AllocError>
     ensures { IfOk result (λ out. nodes_of out.items ≡ texts_linked (may_be_linked settings.now gate.now) (nodes_of nodes.items)) }
 {
-    let mut out = Growing::new(alloc);
+    let mut out = Growing::with_room(alloc, room_for(&nodes))?;
     for node in nodes {
         match node {
             Node::Text(text) => put_text_node(alloc, settings, gate, &mut out, text)?,
@@ -176,6 +176,17 @@ fn texts_linked<F: UriTest>(
     }
     let nodes = out.finish(alloc)?;
     Ok(nodes)
+}
+
+// How many nodes there are at most once links are made of nodes' own texts: an address becomes a link and cuts a text in two.
+fn room_for(nodes: &[Node]) -> usize {
+    let mut room = nodes.len();
+    for node in nodes {
+        if let Node::Text(text) = node {
+            room = room.saturating_add(prefix_count(text.as_str()).saturating_mul(2));
+        }
+    }
+    room
 }
 
 // Puts a text behind nodes, as texts and links.

@@ -71,8 +71,9 @@ fn is_in_paragraphs(doctype: Doctype, name: Element) -> bool
 fn in_paragraphs(alloc: Global, doctype: Doctype, nodes: Vec<Node>) -> Result<Vec<Node>, AllocError>
     ensures { IfOk result (λ out. nodes_of out.items ≡ in_paragraphs doctype (nodes_of nodes.items)) }
 {
+    let done = Growing::with_room(alloc, room_for(&nodes))?;
     let mut paragraphs = Paragraphs {
-        done: Growing::new(alloc),
+        done,
         piece: Growing::new(alloc),
         text: String::new(alloc),
     };
@@ -86,6 +87,33 @@ fn in_paragraphs(alloc: Global, doctype: Doctype, nodes: Vec<Node>) -> Result<Ve
     paragraphs.end_piece(alloc)?;
     let nodes = paragraphs.done.finish(alloc)?;
     Ok(nodes)
+}
+
+// How many nodes there are at most once nodes are in paragraphs, if no blank line lies in two texts: it becomes a text of its
+// own, and cuts another in two.
+fn room_for(nodes: &[Node]) -> usize {
+    let mut room = nodes.len();
+    for node in nodes {
+        if let Node::Text(text) = node {
+            room = room.saturating_add(blank_line_count(text.as_str()).saturating_mul(2));
+        }
+    }
+    room
+}
+
+// How many blank lines a text has.
+fn blank_line_count(text: &str) -> usize {
+    let mut count = 0usize;
+    let mut within = false;
+    let mut rest = text.as_bytes();
+    'counting: while let [first, behind @ ..] = rest {
+        if !within && rest.starts_with(b"\n\n") {
+            count = count.saturating_add(1);
+        }
+        within = *first == b'\n';
+        rest = behind;
+    }
+    count
 }
 
 /// What is done of a fragment, the piece that stands open behind it, and the text at hand behind that, which isn't cut yet.

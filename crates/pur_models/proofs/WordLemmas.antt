@@ -5,14 +5,14 @@ use mathlib.Core.Bool.{beq}
 use Rattle.pur_laws.proofs.Truth.{same_truth}
 use Rattle.pur_modules.proofs.KindLaws.{each_kind}
 use Rattle.pur_names.specs.declared.elements.Element.{Element}
-use Rattle.pur_names.specs.declared.elements.Element.TheVariants.{Col, Colgroup, Tbody, Tr}
+use Rattle.pur_names.specs.declared.elements.Element.TheVariants.{Col, Colgroup, Legend, Tbody, Tr}
 use Rattle.pur_modules.specs.declared.kinds.Child.{Child}
 use Rattle.pur_modules.specs.declared.kinds.Content.{Content}
-use Rattle.pur_modules.specs.declared.kinds.Content.TheVariants.{TableParts}
+use Rattle.pur_modules.specs.declared.kinds.Content.TheVariants.{FieldsetMix, Flow, TableParts}
 use Rattle.pur_modules.specs.declared.kinds.Doctype.{Doctype}
-use Rattle.pur_modules.specs.Expressions.{Step, any_of, expression_of, is_letter, letters_of, one_step, some_of, table_way}
+use Rattle.pur_modules.specs.Expressions.{Step, any_of, expression_of, is_letter, letters_of, one_step, optional, some_of, table_way}
 use Rattle.pur_models.specs.Languages.{IsInLanguage, IsInWay, IsRun, Language, all_among, first_way, later_way, letters_in, no_step, step_first}
-use Rattle.pur_models.specs.Laws.{IsTableWord, may_be_empty, takes_any_number, takes_one_or_more}
+use Rattle.pur_models.specs.Laws.{IsFieldsetWord, IsTableWord, may_be_empty, takes_any_number, takes_one_or_more}
 use Rattle.pur_models.specs.Deciding.{is_cut}
 use Rattle.pur_models.specs.Private.KindLetters.{kind_letters}
 use Rattle.pur_models.proofs.CuttingLemmas.{IsInLanguage-cut, cut-IsInLanguage}
@@ -142,3 +142,25 @@ table_of_parts doctype word t =
     let same : t.captions ++ (t.columns ++ (t.heads ++ (t.feet ++ (t.bodies ++ [])))) ≡ word =
     ap (λ b. t.captions ++ (t.columns ++ (t.heads ++ (t.feet ++ b)))) (append-nil t.bodies) ∙ sym t.joined in
     in_table doctype t.column t.body word t.column_kind t.body_kind (subst W same w)
+
+-- a word of a fieldset is its parts
+pub parts_of_fieldset : (doctype : Doctype) (word : List Child) → Language doctype FieldsetMix word → IsFieldsetWord doctype word
+parts_of_fieldset doctype word (first_way (step_first {run = legends} a (step_first {run = rest} b no_step))) = record {
+  legends = legends;
+  rest = rest;
+  legend_run = a;
+  flow = one_run b;
+  joined = ap (λ w. legends ++ w) (append-nil rest);
+}
+parts_of_fieldset doctype word (later_way w) = elim w [ ]
+
+-- flow content behind a legend or none is a word of a fieldset
+behind_legend : (doctype : Doctype) (legends rest : List Child) → IsRun (optional Legend) legends → Language doctype Flow rest
+    → Language doctype FieldsetMix (legends ++ rest)
+behind_legend doctype legends rest a (first_way (step_first b no_step)) = first_way (step_first a (step_first b no_step))
+behind_legend doctype legends rest a (later_way w) = elim w [ ]
+
+pub fieldset_of_parts : (doctype : Doctype) (word : List Child) → IsFieldsetWord doctype word → Language doctype FieldsetMix word
+fieldset_of_parts doctype word f =
+    let P : List Child → Type 0 = λ w. Language doctype FieldsetMix w in
+    subst P (sym f.joined) (behind_legend doctype f.legends f.rest f.legend_run f.flow)

@@ -2,10 +2,10 @@
 use Rattle.std.specs.Prelude.{◌≡◌, ◌<◌, ◌↔◌, ◌⊎◌, Bool, true, false, List, [], ◌∷◌, ◌++◌, length, IsTrue}
 use Rattle.std.specs.List.{list_all}
 use Rattle.pur_names.specs.declared.elements.Element.{Element}
-use Rattle.pur_names.specs.declared.elements.Element.TheVariants.{Caption, Col, Colgroup, Tbody, Tfoot, Thead, Tr}
+use Rattle.pur_names.specs.declared.elements.Element.TheVariants.{Caption, Col, Colgroup, Legend, Tbody, Tfoot, Thead, Tr}
 use Rattle.pur_modules.specs.declared.kinds.Child.{Child}
 use Rattle.pur_modules.specs.declared.kinds.Content.{Content}
-use Rattle.pur_modules.specs.declared.kinds.Content.TheVariants.{Inline, Flow, Block, AddressMix, Items, Pairs, TableParts, Rows, Cells, Cols, Nothing}
+use Rattle.pur_modules.specs.declared.kinds.Content.TheVariants.{Inline, Flow, Block, AddressMix, Items, Pairs, TableParts, Rows, Cells, Cols, Options, OptionItems, TextOnly, FieldsetMix, Nothing}
 use Rattle.pur_modules.specs.declared.kinds.Doctype.{Doctype}
 use Rattle.pur_modules.specs.Expressions.{any_of, elems, is_letter, optional, some_of}
 use Rattle.pur_models.specs.Languages.{IsRun, Language, has_letter}
@@ -18,6 +18,7 @@ takes_any_number Flow = true
 takes_any_number Block = true
 takes_any_number AddressMix = true
 takes_any_number Cols = true
+takes_any_number TextOnly = true
 takes_any_number content = false
 
 -- whether the kind takes one or more of its letters
@@ -26,11 +27,14 @@ takes_one_or_more Items = true
 takes_one_or_more Pairs = true
 takes_one_or_more Rows = true
 takes_one_or_more Cells = true
+takes_one_or_more Options = true
+takes_one_or_more OptionItems = true
 takes_one_or_more content = false
 
 -- whether an element with this content may have no children
 abbrev pub may_be_empty : Content → Bool
 may_be_empty Nothing = true
+may_be_empty FieldsetMix = true
 may_be_empty content = takes_any_number content
 
 -- some word of the kind has the letter
@@ -56,6 +60,14 @@ pub record IsTableWord (word : List Child) : Type 0 where
   pub foot_run : IsRun (optional Tfoot) feet
   pub body_run : IsRun (some_of (elems (body ∷ []))) bodies
   pub joined : word ≡ captions ++ (columns ++ (heads ++ (feet ++ bodies)))
+
+-- a legend or none, and behind it a word of flow content
+pub record IsFieldsetWord (doctype : Doctype) (word : List Child) : Type 0 where
+  pub legends : List Child
+  pub rest : List Child
+  pub legend_run : IsRun (optional Legend) legends
+  pub flow : Language doctype Flow rest
+  pub joined : word ≡ legends ++ rest
 
 -- each letter of a word of a kind is one that the tables allow there
 abbrev pub WordsAreOfAllowedLetters : Type 0
@@ -94,6 +106,11 @@ NothingIsEmpty = (doctype : Doctype) (word : List Child) → Language doctype No
 abbrev pub TableWordsAreItsParts : Type 0
 TableWordsAreItsParts =
     (doctype : Doctype) (word : List Child) → Language doctype TableParts word ↔ IsTableWord word
+
+-- the words of a fieldset are its parts in their order
+abbrev pub FieldsetWordsAreItsParts : Type 0
+FieldsetWordsAreItsParts =
+    (doctype : Doctype) (word : List Child) → Language doctype FieldsetMix word ↔ IsFieldsetWord doctype word
 
 -- a word is one of a kind exactly where the test finds it so
 abbrev pub WordsAreDecided : Type 0

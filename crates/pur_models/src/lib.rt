@@ -12,8 +12,8 @@ mod models;
 pub use expressions::{Expr, Step};
 pub use laws::{
     allowed_letters_stand_in_words, any_letters_are_a_word, empty_word_is_of_few_kinds,
-    nothing_is_empty, some_letters_are_a_word, table_words_are_its_parts, words_are_decided,
-    words_are_of_allowed_letters,
+    fieldset_words_are_its_parts, nothing_is_empty, some_letters_are_a_word,
+    table_words_are_its_parts, words_are_decided, words_are_of_allowed_letters,
 };
 pub use matching::matches;
 pub use models::model;

@@ -1,7 +1,7 @@
 //! The content models of the two document types.
 
 ghost use Rattle.std.specs.Prelude.{◌≡◌, ◌∷◌, [], IfOk};
-ghost use Rattle.pur_modules.specs.Expressions.{any_of, expression_of, one_step, optional, some_of, table_way};
+ghost use Rattle.pur_modules.specs.Expressions.{any_of, expression_of, fieldset_way, one_step, optional, some_of, table_way};
 ghost use Rattle.pur_models.specs.Images.{step_of, way_of, ways_of};
 ghost use Rattle.pur_models.specs.Languages.{AreDisjoint};
 
@@ -25,15 +25,23 @@ pub fn model(alloc: Global, doctype: Doctype, content: Content) -> Result<Expr, 
 {
     match content {
         // (letters)*
-        Content::Inline | Content::Flow | Content::Block | Content::AddressMix | Content::Cols =>
-            one_step(alloc, any_of(letters_of(alloc, doctype, content)?)),
+        Content::Inline
+        | Content::Flow
+        | Content::Block
+        | Content::AddressMix
+        | Content::Cols
+        | Content::TextOnly => one_step(alloc, any_of(letters_of(alloc, doctype, content)?)),
         // (letters)+
-        Content::Items | Content::Pairs | Content::Rows | Content::Cells => one_step(
-            alloc,
-            some_of(letters_of(alloc, doctype, content)?),
-        ),
+        Content::Items
+        | Content::Pairs
+        | Content::Rows
+        | Content::Cells
+        | Content::Options
+        | Content::OptionItems => one_step(alloc, some_of(letters_of(alloc, doctype, content)?)),
         // caption?, (col* or colgroup*), thead?, tfoot?, (tbody+ or tr+)
         Content::TableParts => table(alloc),
+        // legend?, (letters of flow)*
+        Content::FieldsetMix => fieldset(alloc, doctype),
         // EMPTY
         Content::Nothing => no_step(alloc),
     }
@@ -116,5 +124,27 @@ fn table_way(alloc: Global, column: Element, body: Element) -> Result<Vec<Step>,
     steps.push(optional(alloc, Element::Thead)?)?;
     steps.push(optional(alloc, Element::Tfoot)?)?;
     steps.push(some_of(elements(alloc, &[body])?))?;
+    Ok(steps)
+}
+
+// A fieldset: a legend or none, and behind it flow content.
+#[tactic(auto, using(crate::proofs::KindLemmas::fieldset_steps, crate::proofs::ExpressionLemmas::expression_is_disjoint))]
+fn fieldset(alloc: Global, doctype: Doctype) -> Result<Expr, AllocError>
+    ensures value { IfOk result (λ model. ways_of model ≡ expression_of doctype Content.FieldsetMix) }
+    ensures disjoint { IfOk result (λ model. AreDisjoint (ways_of model)) }
+{
+    let letters = letters_of(alloc, doctype, Content::Flow)?;
+    let mut ways = Vec::new(alloc);
+    ways.push(fieldset_way(alloc, letters)?)?;
+    Ok(Expr { ways })
+}
+
+// The way of a fieldset, with these letters behind the legend.
+fn fieldset_way(alloc: Global, letters: Vec<Child>) -> Result<Vec<Step>, AllocError>
+    ensures { IfOk result (λ way. way_of way ≡ fieldset_way letters.items) }
+{
+    let mut steps = Vec::new(alloc);
+    steps.push(optional(alloc, Element::Legend)?)?;
+    steps.push(any_of(letters))?;
     Ok(steps)
 }

@@ -5,7 +5,7 @@ use Rattle.pur_names.proofs.Variants.{each}
 use Rattle.pur_modules.specs.contracts.kinds.Content as content_type
 use Rattle.pur_modules.specs.contracts.kinds.Doctype as doctype_type
 use Rattle.pur_modules.specs.declared.kinds.Content.{Content}
-use Rattle.pur_modules.specs.declared.kinds.Content.TheVariants.{Inline, Flow, Block, AddressMix, Items, Pairs, TableParts, Rows, Cells, Cols, Nothing}
+use Rattle.pur_modules.specs.declared.kinds.Content.TheVariants.{AddressMix, Block, Cells, Cols, FieldsetMix, Flow, Inline, Items, Nothing, OptionItems, Options, Pairs, Rows, TableParts, TextOnly}
 use Rattle.pur_modules.specs.declared.kinds.Doctype.{Doctype}
 use Rattle.pur_modules.specs.declared.kinds.Doctype.TheVariants.{Strict, Transitional}
 
@@ -13,7 +13,7 @@ abbrev pub all_doctypes : List Doctype
 all_doctypes = Strict ∷ Transitional ∷ []
 
 abbrev pub all_contents : List Content
-all_contents = Inline ∷ Flow ∷ Block ∷ AddressMix ∷ Items ∷ Pairs ∷ TableParts ∷ Rows ∷ Cells ∷ Cols ∷ Nothing ∷ []
+all_contents = Inline ∷ Flow ∷ Block ∷ AddressMix ∷ Items ∷ Pairs ∷ TableParts ∷ Rows ∷ Cells ∷ Cols ∷ Options ∷ OptionItems ∷ TextOnly ∷ FieldsetMix ∷ Nothing ∷ []
 
 pub each_doctype : (test : Doctype → Bool) → list_all test all_doctypes ≡ true → (doctype : Doctype) → test doctype ≡ true
 each_doctype test all = each doctype_type.the_type tt all_doctypes refl test all

@@ -1,5 +1,6 @@
 pub mod KindLaws
 pub mod AmongLaws
+pub mod ExcluderLaws
 pub mod NameLaws
 pub mod EmptyElements
 pub mod AttributeLaws

@@ -2,9 +2,9 @@
 use Rattle.std.specs.Prelude.{Bool, true, false, List, [], ◌∷◌, ◌++◌, Option, Some, None, unwrap_or, if◌then◌else◌}
 use Rattle.std.specs.List.{list_any}
 use Rattle.pur_names.specs.declared.elements.Element.{Element}
-use Rattle.pur_names.specs.declared.elements.Element.TheVariants.{A, Address, Bdo, Big, Blockquote, Br, Caption, Center, Col, Colgroup, Dd, Del, Dir, Div, Dl, Dt, Font, H1, H2, H3, H4, H5, H6, Hr, Img, Ins, Li, Menu, Ol, P, Pre, Small, Span, Sub, Sup, Table, Tbody, Td, Tfoot, Th, Thead, Tr, Ul}
+use Rattle.pur_names.specs.declared.elements.Element.TheVariants.{A, Address, Bdo, Big, Blockquote, Br, Button, Caption, Center, Col, Colgroup, Dd, Del, Dir, Div, Dl, Dt, Fieldset, Font, Form, H1, H2, H3, H4, H5, H6, Hr, Img, Input, Ins, Label, Legend, Li, Menu, Ol, Optgroup, OptionItem, P, Pre, Select, Small, Span, Sub, Sup, Table, Tbody, Td, Textarea, Tfoot, Th, Thead, Tr, Ul}
 use Rattle.pur_modules.specs.declared.kinds.Content.{Content}
-use Rattle.pur_modules.specs.declared.kinds.Content.TheVariants.{Inline, Flow, Block, AddressMix, Items, Pairs, TableParts, Rows, Cells, Cols, Nothing}
+use Rattle.pur_modules.specs.declared.kinds.Content.TheVariants.{AddressMix, Block, Cells, Cols, FieldsetMix, Flow, Inline, Items, Nothing, OptionItems, Options, Pairs, Rows, TableParts, TextOnly}
 use Rattle.pur_modules.specs.declared.kinds.Doctype.{Doctype}
 use Rattle.pur_modules.specs.declared.kinds.Doctype.TheVariants.{Strict, Transitional}
 use Rattle.pur_modules.specs.Groups.{is_among, fontstyle, phrase}
@@ -26,21 +26,25 @@ edit_content parent = Flow
 -- the rows that hold in both doctypes; the elements that only Transitional has hold the same in Strict
 abbrev pub holdings : List Holding
 holdings =
-    holds Inline (fontstyle Transitional ++ phrase ++ Span ∷ Bdo ∷ A ∷ P ∷ H1 ∷ H2 ∷ H3 ∷ H4 ∷ H5 ∷ H6 ∷ Pre ∷ Dt ∷ Caption ∷ [])
-    ∷ holds Flow (Div ∷ Li ∷ Dd ∷ Th ∷ Td ∷ Center ∷ [])
+    holds Inline (fontstyle Transitional ++ phrase ++ Span ∷ Bdo ∷ A ∷ P ∷ H1 ∷ H2 ∷ H3 ∷ H4 ∷ H5 ∷ H6 ∷ Pre ∷ Dt ∷ Caption ∷ Label ∷ Legend ∷ [])
+    ∷ holds Flow (Div ∷ Li ∷ Dd ∷ Th ∷ Td ∷ Center ∷ Button ∷ [])
     ∷ holds Items (Ul ∷ Ol ∷ Dir ∷ Menu ∷ [])
     ∷ holds Pairs (Dl ∷ [])
     ∷ holds TableParts (Table ∷ [])
     ∷ holds Rows (Thead ∷ Tfoot ∷ Tbody ∷ [])
     ∷ holds Cells (Tr ∷ [])
     ∷ holds Cols (Colgroup ∷ [])
-    ∷ holds Nothing (Br ∷ Hr ∷ Img ∷ Col ∷ [])
+    ∷ holds Options (Select ∷ [])
+    ∷ holds OptionItems (Optgroup ∷ [])
+    ∷ holds TextOnly (OptionItem ∷ Textarea ∷ [])
+    ∷ holds FieldsetMix (Fieldset ∷ [])
+    ∷ holds Nothing (Br ∷ Hr ∷ Img ∷ Col ∷ Input ∷ [])
     ∷ []
 
 -- the rows in which the doctypes differ
 abbrev pub doctype_holdings : Doctype → List Holding
-doctype_holdings Strict = holds Inline (Address ∷ []) ∷ holds Block (Blockquote ∷ []) ∷ []
-doctype_holdings Transitional = holds AddressMix (Address ∷ []) ∷ holds Flow (Blockquote ∷ []) ∷ []
+doctype_holdings Strict = holds Inline (Address ∷ []) ∷ holds Block (Blockquote ∷ Form ∷ []) ∷ []
+doctype_holdings Transitional = holds AddressMix (Address ∷ []) ∷ holds Flow (Blockquote ∷ Form ∷ []) ∷ []
 
 -- the content of the row that has the element
 abbrev pub content_in : List Holding → Element → Option Content
@@ -57,17 +61,21 @@ content_held doctype element parent = unwrap_or (content_in (all_holdings doctyp
 
 -- the elements declared EMPTY
 abbrev pub is_empty_element : Element → Bool
-is_empty_element element = is_among (Br ∷ Hr ∷ Img ∷ Col ∷ []) element
+is_empty_element element = is_among (Br ∷ Hr ∷ Img ∷ Col ∷ Input ∷ []) element
 
 -- whether a content allows nothing at all
 abbrev pub is_nothing : Content → Bool
 is_nothing Nothing = true
 is_nothing content = false
 
--- what must not stand in an element, at any depth (XHTML 1.0, appendix B)
+-- what must not stand in an element, at any depth (XHTML 1.0, appendix B); that `font` must not stand in `pre`, and `a`
+-- in `button`, is this filter's own
 abbrev pub excluded_by : Element → List Element
 excluded_by A = A ∷ []
 excluded_by Pre = Img ∷ Big ∷ Small ∷ Sub ∷ Sup ∷ Font ∷ []
+excluded_by Form = Form ∷ []
+excluded_by Label = Label ∷ []
+excluded_by Button = A ∷ Input ∷ Select ∷ Textarea ∷ Label ∷ Button ∷ Form ∷ Fieldset ∷ []
 excluded_by element = []
 
 -- whether an element must not stand in another, at any depth

@@ -2,11 +2,11 @@
 use Rattle.std.specs.Prelude.{ℕ, Bool, true, false, List, [], ◌∷◌, ◌++◌, map}
 use Rattle.std.specs.List.{flat_map, list_any}
 use Rattle.pur_names.specs.declared.elements.Element.{Element}
-use Rattle.pur_names.specs.declared.elements.Element.TheVariants.{Caption, Col, Colgroup, Dd, Dt, Li, P, Tbody, Td, Tfoot, Th, Thead, Tr}
+use Rattle.pur_names.specs.declared.elements.Element.TheVariants.{Caption, Col, Colgroup, Dd, Dt, Legend, Li, Optgroup, OptionItem, P, Tbody, Td, Tfoot, Th, Thead, Tr}
 use Rattle.pur_modules.specs.declared.kinds.Child.{Child}
 use Rattle.pur_modules.specs.declared.kinds.Child.TheVariants.{Text, Elem}
 use Rattle.pur_modules.specs.declared.kinds.Content.{Content}
-use Rattle.pur_modules.specs.declared.kinds.Content.TheVariants.{Inline, Flow, Block, AddressMix, Items, Pairs, TableParts, Rows, Cells, Cols, Nothing}
+use Rattle.pur_modules.specs.declared.kinds.Content.TheVariants.{AddressMix, Block, Cells, Cols, FieldsetMix, Flow, Inline, Items, Nothing, OptionItems, Options, Pairs, Rows, TableParts, TextOnly}
 use Rattle.pur_modules.specs.declared.kinds.Doctype.{Doctype}
 use Rattle.pur_modules.specs.Groups.{is_among, inline, block, misc}
 
@@ -45,6 +45,10 @@ abbrev pub table_way : Element → Element → List Step
 table_way column body =
     optional Caption ∷ any_of (elems (column ∷ [])) ∷ optional Thead ∷ optional Tfoot ∷ some_of (elems (body ∷ [])) ∷ []
 
+-- the way of a fieldset: a legend, and behind it any number of these
+abbrev pub fieldset_way : List Child → List Step
+fieldset_way letters = optional Legend ∷ any_of letters ∷ []
+
 -- the expression of a content kind
 abbrev pub expression_of : Doctype → Content → List (List Step)
 expression_of doctype Inline = one_step (any_of (text_or (inline doctype)))
@@ -57,6 +61,10 @@ expression_of doctype TableParts = table_way Col Tbody ∷ table_way Col Tr ∷ 
 expression_of doctype Rows = one_step (some_of (elems (Tr ∷ [])))
 expression_of doctype Cells = one_step (some_of (elems (Th ∷ Td ∷ [])))
 expression_of doctype Cols = one_step (any_of (elems (Col ∷ [])))
+expression_of doctype Options = one_step (some_of (elems (Optgroup ∷ OptionItem ∷ [])))
+expression_of doctype OptionItems = one_step (some_of (elems (OptionItem ∷ [])))
+expression_of doctype TextOnly = one_step (any_of (Text ∷ []))
+expression_of doctype FieldsetMix = fieldset_way (text_or (inline doctype ++ block doctype)) ∷ []
 expression_of doctype Nothing = [] ∷ []
 
 -- all letters of an expression, in the order in which they stand there

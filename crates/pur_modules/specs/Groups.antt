@@ -3,7 +3,7 @@ use Rattle.std.specs.Prelude.{Bool, List, [], ◌∷◌, ◌++◌}
 use Rattle.std.specs.List.{list_any}
 use Rattle.pur_names.specs.Elements.{same_element}
 use Rattle.pur_names.specs.declared.elements.Element.{Element}
-use Rattle.pur_names.specs.declared.elements.Element.TheVariants.{A, Abbr, Acronym, Address, B, Bdo, Big, Blockquote, Br, Caption, Center, Cite, Code, Col, Colgroup, Dd, Del, Dfn, Dir, Div, Dl, Dt, Em, Font, H1, H2, H3, H4, H5, H6, Hr, I, Img, Ins, Kbd, Li, Menu, Ol, P, Pre, Q, S, Samp, Small, Span, Strike, Strong, Sub, Sup, Table, Tbody, Td, Tfoot, Th, Thead, Tr, Tt, U, Ul, Var}
+use Rattle.pur_names.specs.declared.elements.Element.TheVariants.{A, Abbr, Acronym, Address, B, Bdo, Big, Blockquote, Br, Button, Caption, Center, Cite, Code, Col, Colgroup, Dd, Del, Dfn, Dir, Div, Dl, Dt, Em, Fieldset, Font, Form, H1, H2, H3, H4, H5, H6, Hr, I, Img, Input, Ins, Kbd, Label, Legend, Li, Menu, Ol, Optgroup, OptionItem, P, Pre, Q, S, Samp, Select, Small, Span, Strike, Strong, Sub, Sup, Table, Tbody, Td, Textarea, Tfoot, Th, Thead, Tr, Tt, U, Ul, Var}
 use Rattle.pur_modules.specs.declared.kinds.Doctype.{Doctype}
 use Rattle.pur_modules.specs.declared.kinds.Doctype.TheVariants.{Strict, Transitional}
 
@@ -36,19 +36,27 @@ misc = Ins ∷ Del ∷ []
 abbrev pub anchor : List Element
 anchor = A ∷ []
 
--- the blocks (%block;)
+-- the controls of a form (%inline.forms;)
+abbrev pub controls : List Element
+controls = Input ∷ Select ∷ Textarea ∷ Label ∷ Button ∷ []
+
+-- the blocks (%block; with form)
 abbrev pub block : Doctype → List Element
 block doctype =
-    P ∷ H1 ∷ H2 ∷ H3 ∷ H4 ∷ H5 ∷ H6 ∷ Div ∷ Ul ∷ Ol ∷ Dl ∷ Pre ∷ Hr ∷ Blockquote ∷ Address ∷ Table ∷ []
+    P ∷ H1 ∷ H2 ∷ H3 ∷ H4 ∷ H5 ∷ H6 ∷ Div ∷ Ul ∷ Ol ∷ Dl ∷ Pre ∷ Hr ∷ Blockquote ∷ Address ∷ Table ∷ Fieldset ∷ Form ∷ []
     ++ in_transitional doctype (Center ∷ Dir ∷ Menu ∷ [])
 
--- the parts of lists and tables
+-- the parts of lists, tables and forms
 abbrev pub parts : List Element
-parts = Li ∷ Dt ∷ Dd ∷ Caption ∷ Thead ∷ Tfoot ∷ Tbody ∷ Colgroup ∷ Col ∷ Tr ∷ Th ∷ Td ∷ []
+parts = Li ∷ Dt ∷ Dd ∷ Caption ∷ Thead ∷ Tfoot ∷ Tbody ∷ Colgroup ∷ Col ∷ Tr ∷ Th ∷ Td ∷ Legend ∷ Optgroup ∷ OptionItem ∷ []
 
 -- the inline elements (%inline; with ins and del)
 abbrev pub inline : Doctype → List Element
-inline doctype = fontstyle doctype ++ phrase ++ special ++ anchor ++ misc
+inline doctype = fontstyle doctype ++ phrase ++ special ++ anchor ++ controls ++ misc
+
+-- the elements of forms
+abbrev pub of_forms : List Element
+of_forms = Form ∷ Fieldset ∷ controls ++ Legend ∷ Optgroup ∷ OptionItem ∷ []
 
 -- the elements of a doctype
 abbrev pub elements_of : Doctype → List Element

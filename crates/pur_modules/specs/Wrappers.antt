@@ -1,11 +1,11 @@
 -- Which element a content kind implies round a child that it doesn't allow (this filter's own rule, after HTML Purifier).
 use Rattle.std.specs.Prelude.{[], ◌∷◌, Bool, true, false, Option, Some, None, if◌then◌else◌, not, ◌&&◌}
 use Rattle.pur_names.specs.declared.elements.Element.{Element}
-use Rattle.pur_names.specs.declared.elements.Element.TheVariants.{Dd, Li, P, Td, Th, Tr}
+use Rattle.pur_names.specs.declared.elements.Element.TheVariants.{Dd, Li, OptionItem, P, Td, Th, Tr}
 use Rattle.pur_modules.specs.declared.kinds.Child.{Child}
 use Rattle.pur_modules.specs.declared.kinds.Child.TheVariants.{Text, Elem}
 use Rattle.pur_modules.specs.declared.kinds.Content.{Content}
-use Rattle.pur_modules.specs.declared.kinds.Content.TheVariants.{Block, Items, Pairs, TableParts, Rows}
+use Rattle.pur_modules.specs.declared.kinds.Content.TheVariants.{Block, Items, OptionItems, Options, Pairs, Rows, TableParts}
 use Rattle.pur_modules.specs.declared.kinds.Doctype.{Doctype}
 use Rattle.pur_modules.specs.declared.kinds.Doctype.TheVariants.{Strict}
 use Rattle.pur_modules.specs.Groups.{is_among, inline, misc}
@@ -22,13 +22,15 @@ abbrev pub is_running : Doctype → Child → Bool
 is_running doctype Text = true
 is_running doctype (Elem element) = is_among (inline doctype) element && not (is_among misc element)
 
--- lists imply an item, definition lists a description, tables and their rows a row round cells, and what only the
--- Strict blockquote holds a paragraph round running text
+-- lists imply an item, definition lists a description, tables and their rows a row round cells, lists of options an
+-- option round text, and what a Strict blockquote or form holds a paragraph round running text
 abbrev pub wrapper_for : Doctype → Content → Child → Option Element
 wrapper_for doctype Items child = Some Li
 wrapper_for doctype Pairs child = Some Dd
 wrapper_for doctype TableParts child = if is_cell child then Some Tr else None
 wrapper_for doctype Rows child = if is_cell child then Some Tr else None
+wrapper_for doctype Options Text = Some OptionItem
+wrapper_for doctype OptionItems Text = Some OptionItem
 wrapper_for Strict Block child = if is_running Strict child then Some P else None
 wrapper_for doctype content child = None
 

@@ -1,15 +1,16 @@
 //! The attributes of each element.
 
 ghost use Rattle.std.specs.Prelude.{◌≡◌, ◌≤◌, IsTrue, length, take};
-ghost use Rattle.pur_modules.specs.AttributeLists.{attributes_of, required_of, is_without_repeats};
+ghost use Rattle.pur_modules.specs.AttributeLists.{attributes_of, is_of_none_else, is_outside_forms, required_of, is_without_repeats};
 ghost use Rattle.pur_modules.specs.declared.kinds.Doctype.TheVariants.{Strict, Transitional};
 
 use crate::kinds::Doctype;
 use pur_names::Attr::{
-    self, Abbr, Align, Alt, Bgcolor, Border, Cellpadding, Cellspacing, Cite, Class, Clear, Color,
-    Colspan, Compact, Dir, Face, Frame, Height, Href, Hspace, Id, Lang, ListType, Longdesc,
-    Noshade, Nowrap, Rel, Rowspan, Rules, Scope, Size, Span, Src, Start, Style, Summary, Target,
-    Title, Valign, Value, Vspace, Width, XmlLang,
+    self, Abbr, Action, Align, Alt, Bgcolor, Border, Cellpadding, Cellspacing, Checked, Cite,
+    Class, Clear, Color, Cols, Colspan, Compact, Dir, Disabled, Face, Frame, Height, Href, Hspace,
+    Id, Label, Lang, ListType, Longdesc, Maxlength, Method, Multiple, Name, Noshade, Nowrap,
+    Readonly, Rel, Rows, Rowspan, Rules, Scope, Selected, Size, Span, Src, Start, Style, Summary,
+    Target, Title, Valign, Value, Vspace, Width, XmlLang,
 };
 use pur_names::Element;
 
@@ -84,6 +85,31 @@ static CELL: [Attr; 17] = [
     Nowrap, Width, Height, Bgcolor,
 ];
 
+static FORM: [Attr; 9] = [Id, Class, Style, Title, Lang, XmlLang, Dir, Action, Method];
+
+static INPUT: [Attr; 15] = [
+    Id, Class, Style, Title, Lang, XmlLang, Dir, ListType, Value, Alt, Checked, Disabled, Readonly,
+    Size, Maxlength,
+];
+
+static SELECT: [Attr; 10] = [
+    Id, Class, Style, Title, Lang, XmlLang, Dir, Size, Multiple, Disabled,
+];
+
+static OPTION_GROUP: [Attr; 9] = [Id, Class, Style, Title, Lang, XmlLang, Dir, Label, Disabled];
+
+static OPTION: [Attr; 11] = [
+    Id, Class, Style, Title, Lang, XmlLang, Dir, Label, Value, Selected, Disabled,
+];
+
+static TEXT_AREA: [Attr; 11] = [
+    Id, Class, Style, Title, Lang, XmlLang, Dir, Rows, Cols, Disabled, Readonly,
+];
+
+static BUTTON: [Attr; 10] = [
+    Id, Class, Style, Title, Lang, XmlLang, Dir, ListType, Value, Disabled,
+];
+
 /// The attributes that a doctype declares on an element, each once: those of all elements first.
 ///
 /// The list is empty where the doctype hasn't the element.
@@ -110,8 +136,41 @@ pub fn required(element: Element) -> &'static [Attr]
     match element {
         Element::Img => &[Src, Alt],
         Element::Bdo => &[Dir],
+        Element::Form => &[Action],
+        Element::Textarea => &[Rows, Cols],
+        Element::Optgroup => &[Label],
         _ => &[],
     }
+}
+
+/// Whether the attribute may stand on an element that is none of forms, under one of the doctypes. `name` stands on none.
+///
+/// Source: XHTML 1.0, the attribute lists of the two DTDs.
+pub fn is_outside_forms(attr: Attr) -> bool
+    ensures { result ≡ is_outside_forms attr }
+{
+    !is_of_none_else(attr)
+}
+
+// Whether forms alone have the attribute, or no element has.
+fn is_of_none_else(attr: Attr) -> bool
+    ensures { result ≡ is_of_none_else attr }
+{
+    matches!(
+        attr,
+        Action
+            | Checked
+            | Cols
+            | Disabled
+            | Label
+            | Maxlength
+            | Method
+            | Multiple
+            | Name
+            | Readonly
+            | Rows
+            | Selected
+    )
 }
 
 // An element's attributes under Transitional, and how many of them, from the front, Strict declares on it too.
@@ -139,13 +198,21 @@ fn row_of(element: Element) -> (&'static [Attr], usize)
         | Element::H5
         | Element::H6
         | Element::Div
-        | Element::Caption => (&ALIGNED, 7),
+        | Element::Caption
+        | Element::Legend => (&ALIGNED, 7),
         Element::Hr => (&RULE, 7),
         Element::Ul => (&BULLETS, 7),
         Element::Ol => (&NUMBERS, 7),
         Element::Li => (&ITEM, 7),
         Element::Dl => (&COMPACT, 7),
         Element::Pre => (&PREFORMATTED, 7),
+        Element::Form => (&FORM, 9),
+        Element::Input => (&INPUT, 15),
+        Element::Select => (&SELECT, 10),
+        Element::Optgroup => (&OPTION_GROUP, 9),
+        Element::OptionItem => (&OPTION, 11),
+        Element::Textarea => (&TEXT_AREA, 11),
+        Element::Button => (&BUTTON, 10),
         Element::Dir | Element::Menu => (&COMPACT, 0),
         Element::Font => (&FONT, 0),
         Element::U | Element::S | Element::Strike | Element::Center => (&PLAIN, 0),

@@ -7,15 +7,16 @@ ghost use Rattle.pur_modules.specs.declared.kinds.Content.{Content};
 ghost use Rattle.pur_modules.specs.declared.kinds.Doctype.{Doctype};
 
 use pur_names::Element::{
-    self, A, Abbr, Acronym, Address, B, Bdo, Big, Blockquote, Br, Caption, Center, Cite, Code, Col,
-    Colgroup, Dd, Del, Dfn, Dir, Div, Dl, Dt, Em, Font, H1, H2, H3, H4, H5, H6, Hr, I, Img, Ins,
-    Kbd, Li, Menu, Ol, P, Pre, Q, S, Samp, Small, Span, Strike, Strong, Sub, Sup, Table, Tbody, Td,
-    Tfoot, Th, Thead, Tr, Tt, U, Ul, Var,
+    self, A, Abbr, Acronym, Address, B, Bdo, Big, Blockquote, Br, Button, Caption, Center, Cite,
+    Code, Col, Colgroup, Dd, Del, Dfn, Dir, Div, Dl, Dt, Em, Fieldset, Font, Form, H1, H2, H3, H4,
+    H5, H6, Hr, I, Img, Input, Ins, Kbd, Label, Legend, Li, Menu, Ol, Optgroup, OptionItem, P, Pre,
+    Q, S, Samp, Select, Small, Span, Strike, Strong, Sub, Sup, Table, Tbody, Td, Textarea, Tfoot,
+    Th, Thead, Tr, Tt, U, Ul, Var,
 };
 
 /// A document type of XHTML 1.0.
 ///
-/// Strict has 53 elements; Transitional has 7 more: `u`, `s`, `strike`, `font`, `center`, `dir` and `menu`.
+/// Strict has 63 elements; Transitional has 7 more: `u`, `s`, `strike`, `font`, `center`, `dir` and `menu`.
 #[derive(Clone, Copy, PartialEq, Eq, Debug)]
 pub enum Doctype {
     Strict,
@@ -31,7 +32,7 @@ pub enum Content {
     Inline,
     /// Text, inline elements and blocks.
     Flow,
-    /// Blocks, `ins` and `del`: what a Strict `blockquote` holds.
+    /// Blocks, `ins` and `del`: what a Strict `blockquote` or `form` holds.
     Block,
     /// Text, inline elements and `p`: what a Transitional `address` holds.
     AddressMix,
@@ -47,6 +48,14 @@ pub enum Content {
     Cells,
     /// Any number of `col`.
     Cols,
+    /// One or more `optgroup` and `option`: what a `select` holds.
+    Options,
+    /// One or more `option`: what an `optgroup` holds.
+    OptionItems,
+    /// Text alone: what an `option` or a `textarea` holds.
+    TextOnly,
+    /// A `legend`, and behind it text, inline elements and blocks: what a `fieldset` holds.
+    FieldsetMix,
     /// No children: the elements declared EMPTY.
     Nothing,
 }
@@ -63,7 +72,8 @@ pub enum Child {
 /// The parent counts for `ins` and `del` alone: in inline content they hold inline content, and elsewhere flow. In Strict
 /// an element that only Transitional has holds what it holds there.
 ///
-/// Source: XHTML 1.0, the element declarations of the two DTDs; for `ins` and `del` HTML Purifier's rule.
+/// Source: XHTML 1.0, the element declarations of the two DTDs; for `ins` and `del` HTML Purifier's rule;
+/// that a `legend` stands first is this filter's own.
 #[tactic(auto, unfolding(crate::specs::Contents::content_held))]
 pub fn content_of(doctype: Doctype, element: Element, parent: Content) -> Content
     ensures value { result ≡ content_held doctype element parent }
@@ -104,20 +114,26 @@ pub fn content_of(doctype: Doctype, element: Element, parent: Content) -> Conten
         | H6
         | Pre
         | Dt
-        | Caption => Content::Inline,
-        Div | Li | Dd | Th | Td | Center => Content::Flow,
+        | Caption
+        | Label
+        | Legend => Content::Inline,
+        Div | Li | Dd | Th | Td | Center | Button => Content::Flow,
         Ul | Ol | Dir | Menu => Content::Items,
         Dl => Content::Pairs,
         Table => Content::TableParts,
         Thead | Tfoot | Tbody => Content::Rows,
         Tr => Content::Cells,
         Colgroup => Content::Cols,
-        Br | Hr | Img | Col => Content::Nothing,
+        Select => Content::Options,
+        Optgroup => Content::OptionItems,
+        OptionItem | Textarea => Content::TextOnly,
+        Fieldset => Content::FieldsetMix,
+        Br | Hr | Img | Col | Input => Content::Nothing,
         Address => match doctype {
             Doctype::Strict => Content::Inline,
             Doctype::Transitional => Content::AddressMix,
         },
-        Blockquote => match doctype {
+        Blockquote | Form => match doctype {
             Doctype::Strict => Content::Block,
             Doctype::Transitional => Content::Flow,
         },
@@ -135,7 +151,7 @@ pub fn is_declared_empty(element: Element) -> bool
     ensures value { result ≡ is_empty_element element }
     ensures nothing { (doctype : Doctype) (parent : Content) → is_nothing (content_held doctype element parent) ≡ result }
 {
-    matches!(element, Br | Hr | Img | Col)
+    matches!(element, Br | Hr | Img | Col | Input)
 }
 
 /// Whether the doctype has the element: Transitional has all, and Strict all but seven.

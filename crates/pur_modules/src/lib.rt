@@ -12,9 +12,9 @@ mod kinds;
 mod tables;
 mod wrappers;
 
-pub use attribute_lists::{attributes, required};
-pub use exclusions::excludes;
-pub use groups::{is_block, is_edit, is_inline};
+pub use attribute_lists::{attributes, is_outside_forms, required};
+pub use exclusions::{Excluders, excludes};
+pub use groups::{is_block, is_edit, is_inline, is_of_forms};
 pub use kinds::{Child, Content, Doctype, content_of, declares, is_declared_empty};
 pub use tables::{allows, children, text_allowed};
 pub use wrappers::implied;

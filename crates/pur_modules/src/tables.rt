@@ -8,31 +8,42 @@ ghost use Rattle.pur_modules.specs.declared.kinds.Doctype.TheVariants.{Strict, T
 use crate::groups::{is_block, is_edit, is_inline};
 use crate::kinds::{Child, Content, Doctype};
 use pur_names::Element::{
-    self, A, Abbr, Acronym, Address, B, Bdo, Big, Blockquote, Br, Caption, Center, Cite, Code, Col,
-    Colgroup, Dd, Del, Dfn, Dir, Div, Dl, Dt, Em, Font, H1, H2, H3, H4, H5, H6, Hr, I, Img, Ins,
-    Kbd, Li, Menu, Ol, P, Pre, Q, S, Samp, Small, Span, Strike, Strong, Sub, Sup, Table, Tbody, Td,
-    Tfoot, Th, Thead, Tr, Tt, U, Ul, Var,
+    self, A, Abbr, Acronym, Address, B, Bdo, Big, Blockquote, Br, Button, Caption, Center, Cite,
+    Code, Col, Colgroup, Dd, Del, Dfn, Dir, Div, Dl, Dt, Em, Fieldset, Font, Form, H1, H2, H3, H4,
+    H5, H6, Hr, I, Img, Input, Ins, Kbd, Label, Legend, Li, Menu, Ol, Optgroup, OptionItem, P, Pre,
+    Q, S, Samp, Select, Small, Span, Strike, Strong, Sub, Sup, Table, Tbody, Td, Textarea, Tfoot,
+    Th, Thead, Tr, Tt, U, Ul, Var,
 };
 
-// The elements of flow content, laid out so that each content without an order of its own is a run of them: the inline
-// elements that Transitional alone has, the others, `ins` and `del`, `p`, the other blocks, and the blocks that
-// Transitional alone has.
-static FLOW: [Element; 48] = [
-    U, S, Strike, Font, Tt, I, B, Big, Small, Em, Strong, Dfn, Code, Q, Samp, Kbd, Var, Cite, Abbr,
-    Acronym, Sub, Sup, Br, Span, Bdo, Img, A, Ins, Del, P, H1, H2, H3, H4, H5, H6, Div, Ul, Ol, Dl,
-    Pre, Hr, Blockquote, Address, Table, Center, Dir, Menu,
+// The elements of a Transitional `fieldset`, laid out so that each content without an order of its own is a run of them:
+// `legend`, the inline elements that Transitional alone has, the others, `ins` and `del`, `p`, the other blocks, and the
+// blocks that Transitional alone has.
+static FIELDSET: [Element; 56] = [
+    Legend, U, S, Strike, Font, Tt, I, B, Big, Small, Em, Strong, Dfn, Code, Q, Samp, Kbd, Var,
+    Cite, Abbr, Acronym, Sub, Sup, Br, Span, Bdo, Img, A, Input, Select, Textarea, Label, Button,
+    Ins, Del, P, H1, H2, H3, H4, H5, H6, Div, Ul, Ol, Dl, Pre, Hr, Blockquote, Address, Table,
+    Fieldset, Form, Center, Dir, Menu,
 ];
 
-// Where the runs begin and end in FLOW.
-const STRICT_INLINE: usize = 4;
+// Where the runs begin and end in FIELDSET.
+const INLINE: usize = 1;
 
-const EDITS: usize = 27;
+const STRICT_INLINE: usize = 5;
 
-const PARAGRAPH: usize = 29;
+const EDITS: usize = 33;
 
-const OTHER_BLOCKS: usize = 30;
+const PARAGRAPH: usize = 35;
 
-const TRANSITIONAL_BLOCKS: usize = 45;
+const OTHER_BLOCKS: usize = 36;
+
+const TRANSITIONAL_BLOCKS: usize = 53;
+
+// The elements of a Strict `fieldset`.
+static STRICT_FIELDSET: [Element; 49] = [
+    Legend, Tt, I, B, Big, Small, Em, Strong, Dfn, Code, Q, Samp, Kbd, Var, Cite, Abbr, Acronym,
+    Sub, Sup, Br, Span, Bdo, Img, A, Input, Select, Textarea, Label, Button, Ins, Del, P, H1, H2,
+    H3, H4, H5, H6, Div, Ul, Ol, Dl, Pre, Hr, Blockquote, Address, Table, Fieldset, Form,
+];
 
 // The parts of a table.
 static TABLE_PARTS: [Element; 7] = [Caption, Col, Thead, Tfoot, Tbody, Tr, Colgroup];
@@ -46,20 +57,26 @@ pub fn children(doctype: Doctype, content: Content) -> &'static [Element]
 {
     let (first, end) = match doctype {
         Doctype::Strict => (STRICT_INLINE, TRANSITIONAL_BLOCKS),
-        Doctype::Transitional => (0, FLOW.len()),
+        Doctype::Transitional => (INLINE, FIELDSET.len()),
     };
     match content {
-        Content::Inline => &FLOW[first..PARAGRAPH],
-        Content::AddressMix => &FLOW[first..OTHER_BLOCKS],
-        Content::Flow => &FLOW[first..end],
-        Content::Block => &FLOW[EDITS..end],
+        Content::Inline => &FIELDSET[first..PARAGRAPH],
+        Content::AddressMix => &FIELDSET[first..OTHER_BLOCKS],
+        Content::Flow => &FIELDSET[first..end],
+        Content::Block => &FIELDSET[EDITS..end],
         Content::Items => &[Li],
         Content::Pairs => &[Dt, Dd],
         Content::TableParts => &TABLE_PARTS,
         Content::Rows => &[Tr],
         Content::Cells => &[Th, Td],
         Content::Cols => &[Col],
-        Content::Nothing => &[],
+        Content::Options => &[Optgroup, OptionItem],
+        Content::OptionItems => &[OptionItem],
+        Content::TextOnly | Content::Nothing => &[],
+        Content::FieldsetMix => match doctype {
+            Doctype::Strict => &STRICT_FIELDSET,
+            Doctype::Transitional => &FIELDSET,
+        },
     }
 }
 
@@ -73,7 +90,11 @@ pub fn text_allowed(content: Content) -> bool
 {
     matches!(
         content,
-        Content::Inline | Content::Flow | Content::AddressMix
+        Content::Inline
+            | Content::Flow
+            | Content::AddressMix
+            | Content::TextOnly
+            | Content::FieldsetMix
     )
 }
 
@@ -108,6 +129,11 @@ fn allows_element(doctype: Doctype, content: Content, element: Element) -> bool
         Content::Rows => matches!(element, Tr),
         Content::Cells => matches!(element, Th | Td),
         Content::Cols => matches!(element, Col),
-        Content::Nothing => false,
+        Content::Options => matches!(element, Optgroup | OptionItem),
+        Content::OptionItems => matches!(element, OptionItem),
+        Content::FieldsetMix => {
+            matches!(element, Legend) || is_inline(doctype, element) || is_block(doctype, element)
+        }
+        Content::TextOnly | Content::Nothing => false,
     }
 }

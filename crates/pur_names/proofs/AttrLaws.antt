@@ -41,7 +41,7 @@ same_attr-Decides a b = (
 
 -- each stands at its name's place in the table
 abbrev pub placed_attrs : List Attr
-placed_attrs = placed attr_name attr_place all_attrs Abbr
+placed_attrs = placed attr_name attr_place 128 all_attrs Abbr
 
 pub attr-placed : (a : Attr) → get_or placed_attrs (attr_place (attr_name a)) Abbr ≡ a
 attr-placed a =

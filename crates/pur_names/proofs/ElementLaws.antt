@@ -49,7 +49,7 @@ element_name-ascii e = each_element (λ d. list_all (λ c. nat_lt c 128) (elemen
 
 -- each stands at its name's place in the table
 abbrev pub placed_elements : List Element
-placed_elements = placed element_name element_place all_elements A
+placed_elements = placed element_name element_place 176 all_elements A
 
 pub element-placed : (e : Element) → get_or placed_elements (element_place (element_name e)) A ≡ e
 element-placed e =

@@ -8,10 +8,10 @@ use Rattle.std.proofs.lemmas.Slice.Eq.{bytes_eq-Decides}
 use Rattle.pur_names.proofs.Variants.{numbers}
 use lib.ListN.{get_or}
 
-module _ {X : Type 0} (name_of : X → List ℕ) (place_of : List ℕ → ℕ) where
+module _ {X : Type 0} (name_of : X → List ℕ) (place_of : List ℕ → ℕ) (size : ℕ) where
   -- the table: at each place the one whose name has it, or else this other one
   abbrev pub placed : List X → X → List X
-  placed all other = map (λ k. unwrap_or (find (λ x. nat_eq (place_of (name_of x)) k) all) other) (numbers 0 128)
+  placed all other = map (λ k. unwrap_or (find (λ x. nat_eq (place_of (name_of x)) k) all) other) (numbers 0 size)
 
   -- where each stands at its name's place, and the one at a text's place has another name, none has the text as its name
   pub absent : (table : List X) (other : X) → ((x : X) → get_or table (place_of (name_of x)) other ≡ x)

@@ -41,7 +41,7 @@ same_prop-Decides a b = (
 
 -- each stands at its name's place in the table
 abbrev pub placed_props : List StyleProp
-placed_props = placed prop_name prop_place all_props BackgroundAttachment
+placed_props = placed prop_name prop_place 128 all_props BackgroundAttachment
 
 pub prop-placed : (p : StyleProp) → get_or placed_props (prop_place (prop_name p)) BackgroundAttachment ≡ p
 prop-placed p =

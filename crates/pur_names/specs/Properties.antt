@@ -122,7 +122,7 @@ prop_name WordSpacing = codes "word-spacing"
 
 -- its place in the table of names
 abbrev pub prop_place : List ℕ → ℕ
-prop_place name = place_by 27 14 5 23 name
+prop_place name = place_by 128 27 14 5 23 name
 
 -- all of them, in the order of their ranks
 abbrev pub all_props : List StyleProp

@@ -1,5 +1,5 @@
 -- Where a table has bodies it has rows.
-use Rattle.std.proofs.Common.{◌≡◌, ◌⊎◌, inl, inr, [], ◌∷◌, Bool, true, false, subst}
+use Rattle.std.proofs.Common.{◌≡◌, ◌⊎◌, inl, inr, [], ◌∷◌, Bool, true, false, refl, subst}
 use Rattle.pur_laws.proofs.Truth.{either}
 use Rattle.pur_names.specs.declared.elements.Element.TheVariants.{Tbody, Tr}
 use Rattle.pur_names.specs.Elements.{same_element}
@@ -12,7 +12,8 @@ use Rattle.pur_models.specs.Laws.{may_be_empty}
 use Rattle.pur_models.proofs.WordLemmas.{empty_if}
 use Rattle.pur_tree.specs.Nodes.{PlainElem, bare, Nodes, no_nodes, text_first, elem_first, nodes_append, has_no_nodes}
 use Rattle.pur_tree.specs.Properties.{Holds, letters}
-use Rattle.pur_tree.specs.Words.{word_of, IsWord, HaveWords}
+use Rattle.pur_tree.specs.Words.{word_of}
+use Rattle.pur_nesting.specs.Repaired.{IsRepairedWord, HaveRepairedWords}
 use Rattle.pur_nesting.specs.declared.roles.Part.{Part}
 use Rattle.pur_nesting.specs.declared.roles.Met.{Met}
 use Rattle.pur_nesting.specs.Parts.{role_of, same_part, next, part}
@@ -33,14 +34,14 @@ HasElems-from_first_element (text_first x f) s = HasElems-from_first_element f s
 HasElems-from_first_element (elem_first e kids f) s = tt
 
 -- rows are never none
-HasElems-rows : (d : Doctype) (kids : Nodes) → Holds (letters d) Rows kids → IsWord d Rows kids → HasElems kids
+HasElems-rows : (d : Doctype) (kids : Nodes) → Holds (letters d) Rows kids → IsRepairedWord d Rows kids → HasElems kids
 HasElems-rows d kids h w = go (elems_or_none kids)
   where
     go : HasElems kids ⊎ NoElems kids → HasElems kids
     go (inl some) = some
     go (inr none) =
         let word : word_of (has_text_letter d Rows) kids ≡ [] = rw (no_text d).0 (word-NoElems kids (Blank-letters d Rows kids (no_text d).0 h) none) in
-        let empty : may_be_empty Rows ≡ true = empty_if d Rows (subst (λ x. Language d Rows x) word w) in absurd (cc)
+        let empty : may_be_empty Rows ≡ true = empty_if d Rows (subst (λ x. Language d Rows x) word (w refl)) in absurd (cc)
 
 -- it begins with an element
 abbrev pub Begins : Nodes → Type 0
@@ -57,15 +58,15 @@ Begins-part w m (elem_first e kids f) p h =
     (λ there k. tt) (λ other k. Begins-part w n f other k) h
 
 HasElems-as_body : (d : Doctype) (tbody : Bool) (e : PlainElem) (kids : Nodes) → Holds (letters d) (content_held d e.name TableParts) kids
-    → IsWord d (content_held d e.name TableParts) kids → HasElems (as_body tbody e kids)
+    → IsRepairedWord d (content_held d e.name TableParts) kids → HasElems (as_body tbody e kids)
 HasElems-as_body d tbody e kids l w =
     each_body HasElems d tbody e kids (λ rows. tt) (
     λ rows. let letters_of_rows = at_kind d (content_held d e.name TableParts) Rows kids rows l in
-    let word = subst (λ x. IsWord d x kids) rows w in
+    let word = subst (λ x. IsRepairedWord d x kids) rows w in
     HasElems-from_first_element kids (HasElems-rows d kids letters_of_rows word)
     ) (λ other. tt)
 
-pub HasElems-as_bodies : (d : Doctype) (tbody : Bool) (f : Nodes) → Begins f → Holds (letters d) TableParts f → HaveWords d TableParts f
+pub HasElems-as_bodies : (d : Doctype) (tbody : Bool) (f : Nodes) → Begins f → Holds (letters d) TableParts f → HaveRepairedWords d TableParts f
     → HasElems (as_bodies tbody f)
 HasElems-as_bodies d tbody no_nodes b h w = absurd b
 HasElems-as_bodies d tbody (text_first s f) b h w = absurd b

@@ -31,7 +31,7 @@ count_in_text-repair c d p k e kids other h = go (same_element e.name Table) ref
     go true is v gone =
         let held = ap (λ x. content_held d x k) ((same_element-Decides e.name Table).0 is) ∙ held_table d k in
         rw is (count_in_text-repaired_table c d p e kids other (at_kind d (content_held d e.name k) TableParts kids held h))
-    go false is true gone = let v = vanished d k e.name kids gone h in let none = count_in_text-NoElems c kids other v.2 v.3 in rw (is, gone) (omega (arith, none))
+    go false is true gone = let v = vanished d k e.name kids gone h in let none = count_in_text-NoElems c kids other v.3 v.4 in rw (is, gone) (omega (arith, none))
     go false is false gone = rw (is, gone) (omega arith)
 
 -- what stands after the repair and what is lost is what stood before

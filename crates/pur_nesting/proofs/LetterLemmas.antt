@@ -10,7 +10,7 @@ use Rattle.pur_names.specs.Elements.{same_element}
 use Rattle.pur_names.proofs.ElementLaws.{same_element-Decides}
 use Rattle.pur_modules.specs.declared.kinds.Child.TheVariants.{Text, Elem}
 use Rattle.pur_modules.specs.declared.kinds.Content.{Content}
-use Rattle.pur_modules.specs.declared.kinds.Content.TheVariants.{Inline, Flow, Block, TableParts, Rows, Cells}
+use Rattle.pur_modules.specs.declared.kinds.Content.TheVariants.{Inline, Flow, Block, FieldsetMix, TableParts, Rows, Cells}
 use Rattle.pur_modules.specs.declared.kinds.Doctype.{Doctype}
 use Rattle.pur_modules.specs.declared.kinds.Doctype.TheVariants.{Strict, Transitional}
 use Rattle.pur_modules.specs.Contents.{content_held}
@@ -66,8 +66,10 @@ paragraph_letter : (d : Doctype) (k : Content) â†’ is_letter d k (Elem Table) â‰
 unfolding child_letters
 paragraph_letter Strict Flow h = refl
 paragraph_letter Strict Block h = refl
+paragraph_letter Strict FieldsetMix h = refl
 paragraph_letter Transitional Flow h = refl
 paragraph_letter Transitional Block h = refl
+paragraph_letter Transitional FieldsetMix h = refl
 paragraph_letter d k h = absurd (cc)
 
 -- at a content kind, and at the same by another name

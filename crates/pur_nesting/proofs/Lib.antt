@@ -4,6 +4,7 @@ pub mod CaptionLemmas
 pub mod ColumnLemmas
 pub mod CountLemmas
 pub mod ForestLemmas
+pub mod FormLemmas
 pub mod HandingLemmas
 pub mod HaveWordsLemmas
 pub mod HoldsLemmas

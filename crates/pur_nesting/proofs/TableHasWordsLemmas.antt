@@ -12,7 +12,8 @@ use Rattle.pur_models.specs.Laws.{IsTableWord}
 use Rattle.pur_models.proofs.WordLemmas.{table_of_parts}
 use Rattle.pur_tree.specs.Nodes.{PlainElem, bare, Nodes, no_nodes, text_first, elem_first}
 use Rattle.pur_tree.specs.Properties.{Holds, letters}
-use Rattle.pur_tree.specs.Words.{word_of, IsWord, HaveWords}
+use Rattle.pur_tree.specs.Words.{word_of}
+use Rattle.pur_nesting.specs.Repaired.{IsRepairedWord, HaveRepairedWords}
 use Rattle.pur_nesting.specs.declared.permits.Permits.{Permits}
 use Rattle.pur_nesting.specs.declared.roles.Role.{Role}
 use Rattle.pur_nesting.specs.declared.roles.Role.TheVariants.{Title, Header, Footer, Stranger}
@@ -35,17 +36,17 @@ use Rattle.pur_nesting.proofs.HaveWordsLemmas.{HaveWords-at, IsWord-at, HaveWord
 
 -- the nodes may stand in a table, and have words
 abbrev IsGood : Doctype → Nodes → Type 0
-IsGood d f = Holds (letters d) TableParts f × HaveWords d TableParts f
+IsGood d f = Holds (letters d) TableParts f × HaveRepairedWords d TableParts f
 
 -- and there is at most one element, of some name
 abbrev IsOne : Doctype → Element → Nodes → Type 0
-IsOne d x f = Holds (letters d) TableParts f × HaveWords d TableParts f × Only (x ∷ []) f × AtMostOne f
+IsOne d x f = Holds (letters d) TableParts f × HaveRepairedWords d TableParts f × Only (x ∷ []) f × AtMostOne f
 
 -- a table of good parts has words
 HaveWords-table : (d : Doctype) (p : Permits) (k : Content) (e : PlainElem) (lead captions columns heads feet bodies : Nodes) → e.name ≡ Table
     → IsGood d lead → NoElems lead → IsOne d Caption captions → IsGood d columns → AreAlike columns
     → IsOne d Thead heads → IsOne d Tfoot feet → IsGood d bodies → Only (Tbody ∷ Tr ∷ []) bodies → HasElems bodies
-    → HaveWords d k (table e lead captions columns heads feet bodies)
+    → HaveRepairedWords d k (table e lead captions columns heads feet bodies)
 HaveWords-table d p k e a b c x y z named ga none gb gc alike gx gy gz bodies some =
     (IsWord-at d TableParts (content_held d e.name k) kids same in_language, HaveWords-at d TableParts (content_held d e.name k) kids same inside, tt)
   where
@@ -63,30 +64,30 @@ HaveWords-table d p k e a b c x y z named ga none gb gc alike gx gy gz bodies so
         (blank x gx.0) gx.2 gx.3 (blank y gy.0) gy.2 gy.3
         (blank (of_one_kind z) (letters_of_one_kind d p z gz.0)) (bodies_alike z bodies) (HasElems-of_one_kind z some)
 
-    in_language : IsWord d TableParts kids
-    in_language = rw (no_text d).1 (table_of_parts d (word_of false kids) word)
+    in_language : IsRepairedWord d TableParts kids
+    in_language repaired = rw (no_text d).1 (table_of_parts d (word_of false kids) word)
 
-    inside : HaveWords d TableParts kids
+    inside : HaveRepairedWords d TableParts kids
     inside =
         HaveWords-append d TableParts a _ ga.1 (HaveWords-append d TableParts b _ gb.1 (HaveWords-append d TableParts c _ gc.1
         (HaveWords-append d TableParts x _ gx.1 (HaveWords-append d TableParts y _ gy.1 (HaveWords-of_one_kind d p z gz.0 gz.1)))))
 
 -- a paragraph of a caption's children
-HaveWords-without_bodies : (d : Doctype) (k : Content) (paragraph : Bool) (f : Nodes) → Fits Captions f → HaveWords d TableParts f
-    → HaveWords d k (without_bodies paragraph f)
+HaveWords-without_bodies : (d : Doctype) (k : Content) (paragraph : Bool) (f : Nodes) → Fits Captions f → HaveRepairedWords d TableParts f
+    → HaveRepairedWords d k (without_bodies paragraph f)
 HaveWords-without_bodies d k paragraph no_nodes fits h = tt
 HaveWords-without_bodies d k paragraph (text_first s f) fits h = tt
 HaveWords-without_bodies d k paragraph (elem_first e kids f) fits h =
-    either (HaveWords d k) (paragraph && not (are_blank kids)) (elem_first (bare P) kids no_nodes) no_nodes
+    either (HaveRepairedWords d k) (paragraph && not (are_blank kids)) (elem_first (bare P) kids no_nodes) no_nodes
     (IsWord-at d (content_held d e.name TableParts) (content_held d P k) kids same h.0, HaveWords-at d _ _ kids same h.1, tt) tt
   where
     same : content_held d e.name TableParts ≡ content_held d P k
     same = ap (λ x. content_held d x TableParts) (is_caption e.name fits.0) ∙ (held_inline d TableParts).0 ∙ sym (held_inline d k).1
 
 pub HaveWords-repaired_table : (d : Doctype) (p : Permits) (k : Content) (e : PlainElem) (kids : Nodes) → e.name ≡ Table
-    → Holds (letters d) TableParts kids → HaveWords d TableParts kids → HaveWords d k (repaired_table p e kids)
+    → Holds (letters d) TableParts kids → HaveRepairedWords d TableParts kids → HaveRepairedWords d k (repaired_table p e kids)
 HaveWords-repaired_table d p k e kids named l h =
-    each_table (HaveWords d k) p e (parts_of kids) (
+    each_table (HaveRepairedWords d k) p e (parts_of kids) (
     λ x. made (parts_of kids Heads) (parts_of kids Feet) (parts_of kids Bodies) heads feet (good Bodies) (fits Bodies)
     (Begins-part Bodies at_first kids refl x)
     ) (
@@ -118,7 +119,7 @@ HaveWords-repaired_table d p k e kids named l h =
     feet = one Feet Footer only_Footer refl refl refl
 
     made : (x y z : Nodes) → IsOne d Thead x → IsOne d Tfoot y → IsGood d z → Fits Bodies z → Begins z
-        → HaveWords d k (table e (parts_of kids Lead) (parts_of kids Captions) (parts_of kids Columns) x y (as_bodies p.tbody z))
+        → HaveRepairedWords d k (table e (parts_of kids Lead) (parts_of kids Captions) (parts_of kids Columns) x y (as_bodies p.tbody z))
     made x y z head foot body fit begins =
         HaveWords-table d p k e (parts_of kids Lead) (parts_of kids Captions) (parts_of kids Columns) x y (as_bodies p.tbody z) named
         (good Lead) (NoElems-lead (parts_of kids Lead) (fits Lead)) captions (good Columns) (columns_alike at_first kids refl refl) head foot

@@ -23,6 +23,7 @@ use Rattle.pur_tree.specs.Words.{word_of, IsWord, HaveWords}
 use Rattle.pur_tree.proofs.WalkLemmas.{is_joined-joined_nodes}
 use Rattle.pur_nesting.specs.declared.permits.Permits.{Permits}
 use Rattle.pur_nesting.specs.Nesting.{vanishes, repair, nested}
+use Rattle.pur_nesting.specs.Repaired.{IsRepairedWord, HaveRepairedWords}
 use Rattle.pur_nesting.specs.Settled.{IsSettled}
 use Rattle.pur_nesting.proofs.LetterLemmas.{held_table, no_text, letters_nested}
 use Rattle.pur_nesting.proofs.BlankLemmas.{word-NoElems}
@@ -30,20 +31,20 @@ use Rattle.pur_nesting.proofs.NeededLemmas.{vanished}
 use Rattle.pur_nesting.proofs.JoinedWordsLemmas.{HaveWords-nested}
 use Rattle.pur_nesting.proofs.SettledLemmas.{settled_same}
 
--- an element whose children are a word of what it holds doesn't vanish
+-- an element whose children are a word of what it holds, if repair makes words of that, doesn't vanish
 stays_there : (d : Doctype) (k : Content) (e : Element) (kids : Nodes) → Holds (letters d) (content_held d e k) kids
-    → IsWord d (content_held d e k) kids → vanishes e kids ≡ false
+    → IsRepairedWord d (content_held d e k) kids → vanishes e kids ≡ false
 stays_there d k e kids l w = go (vanishes e kids) refl
   where
     go : (b : Bool) → vanishes e kids ≡ b → b ≡ false
     go false is = refl
     go true is =
         let v = vanished d k e kids is l in
-        let word : word_of (has_text_letter d (content_held d e k)) kids ≡ [] = rw v.0 (word-NoElems kids v.2 v.3) in
-        let empty = empty_if d (content_held d e k) (subst (λ x. Language d (content_held d e k) x) word w) in
+        let word : word_of (has_text_letter d (content_held d e k)) kids ≡ [] = rw v.0 (word-NoElems kids v.3 v.4) in
+        let empty = empty_if d (content_held d e k) (subst (λ x. Language d (content_held d e k) x) word (w v.2)) in
         let never = v.1 in absurd (cc)
 
-words_settled : (d : Doctype) (k : Content) (f : Nodes) → Holds (letters d) k f → HaveWords d k f → is_joined f ≡ true → IsSettled f
+words_settled : (d : Doctype) (k : Content) (f : Nodes) → Holds (letters d) k f → HaveRepairedWords d k f → is_joined f ≡ true → IsSettled f
 words_settled d k no_nodes l h j = tt
 words_settled d k (text_first t f) l h j =
     let parts = and_parts (not (starts_with_text f)) (is_joined f) j in
@@ -53,7 +54,7 @@ words_settled d k (elem_first e kids f) l h j =
       stays_there d k e.name kids l.1 h.0,
       λ is. let named : e.name ≡ Table = (same_element-Decides e.name Table).0 is in
           let same : content_held d e.name k ≡ TableParts = ap (λ x. content_held d x k) named ∙ held_table d k in
-          let w : IsWord d TableParts kids = subst (λ x. IsWord d x kids) same h.0 in
+          let w : IsWord d TableParts kids = subst (λ x. IsRepairedWord d x kids) same h.0 refl in
           parts_of_table d (word_of false kids) (rw (no_text d).1 at w),
       words_settled d (content_held d e.name k) kids l.1 h.1 parts.0,
       words_settled d k f l.2 h.2 parts.1,
@@ -84,8 +85,13 @@ letters_of_word d k (elem_first e kids f) w h =
 pub valid_letters : (d : Doctype) (k : Content) (f : Nodes) → IsWord d k f → HaveWords d k f → Holds (letters d) k f
 valid_letters d k f w h = letters_of_word d k f (words_are_allowed d k (word_of (has_text_letter d k) f) w) h
 
+words_repaired : (d : Doctype) (k : Content) (f : Nodes) → HaveWords d k f → HaveRepairedWords d k f
+words_repaired d k no_nodes h = tt
+words_repaired d k (text_first s f) h = words_repaired d k f h
+words_repaired d k (elem_first e kids f) h = (λ repaired. h.0, words_repaired d (content_held d e.name k) kids h.1, words_repaired d k f h.2)
+
 pub valid_settled : (d : Doctype) (k : Content) (f : Nodes) → IsWord d k f → HaveWords d k f → is_joined f ≡ true → IsSettled f
-valid_settled d k f w h j = words_settled d k f (valid_letters d k f w h) h j
+valid_settled d k f w h j = words_settled d k f (valid_letters d k f w h) (words_repaired d k f h) j
 
 -- what repair leaves is settled, and needs no repair
 pub nested_settled : (d : Doctype) (p : Permits) (k : Content) (f : Nodes) → Holds (letters d) k f → IsSettled (nested p f)

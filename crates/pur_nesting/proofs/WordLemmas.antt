@@ -21,6 +21,7 @@ use Rattle.pur_models.proofs.WordLemmas.{any_letters, some_letters, if_empty}
 use Rattle.pur_tree.specs.Nodes.{Nodes, no_nodes, text_first, elem_first}
 use Rattle.pur_tree.specs.Properties.{Holds, letters}
 use Rattle.pur_tree.specs.Words.{word_of, IsWord}
+use Rattle.pur_nesting.specs.Repaired.{is_repaired, IsRepairedWord}
 use Rattle.pur_nesting.specs.Tables.{has_child}
 use Rattle.pur_nesting.specs.Nesting.{needed_by, vanishes}
 use Rattle.pur_nesting.proofs.LetterLemmas.{space_in}
@@ -40,10 +41,11 @@ letters_word d k (text_first s f) h = go (has_text_letter d k) refl (letters_wor
     go false is r = let space = space_in d k s is h.0 in rw space r
 letters_word d k (elem_first e kids f) h = and_from _ _ h.0 (letters_word d k f h.2)
 
--- what an element holds takes any number, or nothing; or is a table's parts; or the element needs a child
+-- what an element holds isn't repaired; or takes any number, or nothing; or is a table's parts; or the element needs a child
 abbrev kind_is_known : Doctype → Content → Element → Bool
 kind_is_known d k e =
-    takes_any_number (content_held d e k) || (is_nothing (content_held d e k) || (same_element e Table || (takes_one_or_more (content_held d e k) && needs e)))
+    not (is_repaired (content_held d e k))
+    || (takes_any_number (content_held d e k) || (is_nothing (content_held d e k) || (same_element e Table || (takes_one_or_more (content_held d e k) && needs e))))
 
 kinds_known : (d : Doctype) (k : Content) → list_all (kind_is_known d k) all_elements ≡ true
 unfolding content_held
@@ -67,11 +69,11 @@ word_of_nothing d (c ∷ w) h =
     let none = nothing_word d c in
     let some = (and_parts (is_letter d Nothing c) (list_all (is_letter d Nothing) w) h).0 in absurd (cc)
 
--- an element that is no table and doesn't vanish has a word for its children
+-- an element that is no table and doesn't vanish has a word for its children, where repair makes words of what it holds
 pub word_of_element : (d : Doctype) (k : Content) (e : Element) (kids : Nodes) → same_element e Table ≡ false → vanishes e kids ≡ false
-    → Holds (letters d) (content_held d e k) kids → IsWord d (content_held d e k) kids
-word_of_element d k e kids no_table stays h =
-    go (takes_any_number held) refl (is_nothing held) refl (takes_one_or_more held) refl (needs e) refl (rw no_table at (kind_known d k e))
+    → Holds (letters d) (content_held d e k) kids → IsRepairedWord d (content_held d e k) kids
+word_of_element d k e kids no_table stays h repaired =
+    go (takes_any_number held) refl (is_nothing held) refl (takes_one_or_more held) refl (needs e) refl (rw (no_table, repaired) at (kind_known d k e))
   where
     held : Content
     held = content_held d e k

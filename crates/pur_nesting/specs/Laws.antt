@@ -7,6 +7,7 @@ use Rattle.pur_modules.specs.declared.kinds.Content.{Content}
 use Rattle.pur_modules.specs.declared.kinds.Doctype.{Doctype}
 use Rattle.pur_models.specs.Laws.{takes_any_number}
 use Rattle.pur_attrlist.specs.Attributes.{Attribute}
+use Rattle.pur_settings.specs.Rules.{Rules, permits_element}
 use Rattle.pur_tree.specs.Forests.{IsForest}
 use Rattle.pur_tree.specs.Nodes.{Nodes, is_joined}
 use Rattle.pur_tree.specs.Properties.{Holds, letters, free, permitted, pictures}
@@ -14,7 +15,8 @@ use Rattle.pur_tree.specs.Spelling.{has_allowed_characters, has_distinct_names}
 use Rattle.pur_tree.specs.Walks.{count_in_text}
 use Rattle.pur_tree.specs.Words.{IsWord, HaveWords}
 use Rattle.pur_nesting.specs.declared.permits.Permits.{Permits}
-use Rattle.pur_nesting.specs.Nesting.{nested, lost_in_nesting}
+use Rattle.pur_nesting.specs.Nesting.{nested, lost_in_nesting, permits_of}
+use Rattle.pur_nesting.specs.Repaired.{HaveRepairedWords}
 use Rattle.pur_nesting.specs.Settled.{IsSettled}
 
 -- each child, at every depth, is a letter of its parent's content, or white space text; the nodes themselves stand in a
@@ -58,10 +60,15 @@ KeepsCounts = (doctype : Doctype) (p : Permits) (content : Content) (c : ℕ) (n
 abbrev pub NeverMore : Type 0
 NeverMore = (p : Permits) (c : ℕ) (nodes : Nodes) → count_in_text c (nested p nodes) ≤ count_in_text c nodes
 
--- the children of each element are a word of what it holds
+-- the children of each element are a word of what it holds, if repair makes words of that
 abbrev pub GivesWords : Type 0
 GivesWords = (doctype : Doctype) (p : Permits) (content : Content) (nodes : Nodes) → AreLetters doctype content nodes
-    → HaveWords doctype content (nested p nodes)
+    → HaveRepairedWords doctype content (nested p nodes)
+
+-- and of whatever it holds, where all elements are permitted and none of forms is
+abbrev pub GivesAllWords : Type 0
+GivesAllWords = (rules : Rules) (content : Content) (nodes : Nodes) → rules.forms ≡ false → AreLetters rules.doctype content nodes
+    → Holds (permitted (permits_element rules)) tt nodes → HaveWords rules.doctype content (nested (permits_of rules) nodes)
 
 -- and so are the nodes themselves, where their parent takes any number of its letters, as a fragment does
 abbrev pub GivesAWord : Type 0

@@ -1,6 +1,6 @@
 //! Laws of nesting repair, each the contract of a function that does nothing.
 
-ghost use Rattle.pur_nesting.specs.Laws.{KeepsForests, KeepsLetters, KeepsFree, KeepsPermitted, KeepsPictures, KeepsDistinct, KeepsAllowed, KeepsCounts, NeverMore, GivesWords, GivesAWord, JoinsTexts, WordsAreLetters, LeavesSettled, IsSettling, ValidAreSettled, RepairsOnce};
+ghost use Rattle.pur_nesting.specs.Laws.{KeepsForests, KeepsLetters, KeepsFree, KeepsPermitted, KeepsPictures, KeepsDistinct, KeepsAllowed, KeepsCounts, NeverMore, GivesWords, GivesAllWords, GivesAWord, JoinsTexts, WordsAreLetters, LeavesSettled, IsSettling, ValidAreSettled, RepairsOnce};
 ghost use Rattle.pur_nesting.specs.Rows.{DropsAnEmptyList, KeepsADefinition, JoinsNeighbours, PutsTheCaptionFirst, MakesAParagraph, LosesACaption, DropsABlankTable, PutsBodiesLast, MakesTheHeadABody, TakesTheRowsOfTheHead, MakesTheFootABody, PutsTheFootBeforeBodies, DropsAnEmptyTable, DropsRowsWithoutCells, KeepsAttributesOfAHead, TakesTheRowsOfAFoot, PutsRunsIntoBodies};
 
 /// Letters stay letters of their parent's content.
@@ -43,9 +43,16 @@ pub fn never_more()
     ensures { NeverMore }
 {}
 
-/// After repair the children of each element are a word of what it holds.
+/// After repair the children of each element are a word of what it holds, but for what a `select`, an `optgroup` and a
+/// `fieldset` hold.
 pub fn gives_words()
     ensures { GivesWords }
+{}
+
+/// After repair the children of each element are a word of what it holds, where all elements are permitted and none of
+/// forms is.
+pub fn gives_all_words()
+    ensures { GivesAllWords }
 {}
 
 /// After repair the nodes themselves are a word, where their parent takes any number of its letters, as a fragment

@@ -16,9 +16,9 @@ mod settled;
 mod tables;
 
 pub use laws::{
-    gives_a_word, gives_words, is_settling, joins_texts, keeps_allowed, keeps_counts,
-    keeps_distinct, keeps_forests, keeps_free, keeps_letters, keeps_permitted, keeps_pictures,
-    leaves_settled, never_more, repairs_once, valid_are_settled, words_are_letters,
+    gives_a_word, gives_all_words, gives_words, is_settling, joins_texts, keeps_allowed,
+    keeps_counts, keeps_distinct, keeps_forests, keeps_free, keeps_letters, keeps_permitted,
+    keeps_pictures, leaves_settled, never_more, repairs_once, valid_are_settled, words_are_letters,
     worked_examples,
 };
 pub use nesting::fix_nesting;

@@ -6,12 +6,12 @@ ghost use Rattle.pur_tree.specs.Image.{nodes_of, node_before};
 ghost use Rattle.pur_tree.specs.Nodes.{Nodes, plain_elem};
 ghost use Rattle.pur_validity.specs.Attributes.{ids_of, ids_in};
 ghost use Rattle.pur_validity.specs.Validity.{IsValid};
-ghost use Rattle.pur_reader.specs.Private.Judging.{is_excluded_by, is_right_here, has_right_attributes, right_within, seen_in, seen_behind, ids_right};
+ghost use Rattle.pur_reader.specs.Private.Judging.{is_right_here, has_right_attributes, right_within, seen_in, seen_behind, ids_right};
 
 use crate::values::has_right_attributes;
 use crate::words::are_word;
 use pur_attrlist::AttrList;
-use pur_modules::{Content, content_of, excludes};
+use pur_modules::{Content, Excluders, content_of};
 use pur_names::Element;
 use pur_settings::Settings;
 use pur_tree::{Forest, Node};
@@ -41,7 +41,7 @@ pub fn valid<F: UriTest>(
     if !is_word {
         return Ok(false);
     }
-    let is_right = are_right(alloc, settings, gate, parent, false, false, nodes)?;
+    let is_right = are_right(alloc, settings, gate, parent, Excluders::none(), nodes)?;
     if !is_right {
         return Ok(false);
     }
@@ -50,21 +50,20 @@ pub fn valid<F: UriTest>(
     Ok(has_ids)
 }
 
-// Whether nodes are right in some content, in a link or a `pre`.
+// Whether nodes are right in some content, with what stands round them.
 #[cycle(are_right)]
 fn are_right<F: UriTest>(
     alloc: Global,
     settings: &Settings,
     gate: &UriGate<F>,
     content: Content,
-    in_link: bool,
-    in_pre: bool,
+    round: Excluders,
     nodes: &[Node],
 ) -> Result<bool, AllocError>
-    ensures { IfOk result (λ is. is ≡ right_within settings.now gate.now content in_link in_pre (nodes_of nodes.now)) }
+    ensures { IfOk result (λ is. is ≡ right_within settings.now gate.now content round (nodes_of nodes.now)) }
 {
     for node in nodes {
-        let is_right = is_right_node(alloc, settings, gate, content, in_link, in_pre, node)?;
+        let is_right = is_right_node(alloc, settings, gate, content, round, node)?;
         if !is_right {
             return Ok(false);
         }
@@ -72,26 +71,25 @@ fn are_right<F: UriTest>(
     Ok(true)
 }
 
-// Whether a node is right in some content, in a link or a `pre`.
+// Whether a node is right in some content, with what stands round it.
 #[cycle(are_right)]
 fn is_right_node<F: UriTest>(
     alloc: Global,
     settings: &Settings,
     gate: &UriGate<F>,
     content: Content,
-    in_link: bool,
-    in_pre: bool,
+    round: Excluders,
     node: &Node,
 ) -> Result<bool, AllocError>
-    ensures { IfOk result (λ is. (rest : Nodes) → right_within settings.now gate.now content in_link in_pre (node_before node.now rest)
-        ≡ (is && right_within settings.now gate.now content in_link in_pre rest)) }
+    ensures { IfOk result (λ is. (rest : Nodes) → right_within settings.now gate.now content round (node_before node.now rest)
+        ≡ (is && right_within settings.now gate.now content round rest)) }
 {
     match node {
         Node::Text(_) => Ok(true),
         Node::Elem(elem) => {
             let name = elem.name;
             let kids = elem.children.as_slice();
-            let is_here = is_right_here(alloc, settings, content, in_link, in_pre, name, kids)?;
+            let is_here = is_right_here(alloc, settings, content, round, name, kids)?;
             if !is_here {
                 return Ok(false);
             }
@@ -100,18 +98,11 @@ fn is_right_node<F: UriTest>(
                 return Ok(false);
             }
             let held = content_of(settings.doctype(), name, content);
-            let link = either(Element::A.is_same(name), in_link);
-            let pre = either(Element::Pre.is_same(name), in_pre);
-            let inside = are_right(alloc, settings, gate, held, link, pre, kids)?;
+            let within = round.inside(name);
+            let inside = are_right(alloc, settings, gate, held, within, kids)?;
             Ok(inside)
         }
     }
-}
-
-fn either(one: bool, other: bool) -> bool
-    ensures { result ≡ (one || other) }
-{
-    if one { true } else { other }
 }
 
 // Whether an element may stand here, with these children.
@@ -119,32 +110,21 @@ fn is_right_here(
     alloc: Global,
     settings: &Settings,
     content: Content,
-    in_link: bool,
-    in_pre: bool,
+    round: Excluders,
     name: Element,
     kids: &[Node],
 ) -> Result<bool, AllocError>
-    ensures { IfOk result (λ is. is ≡ is_right_here settings.now content in_link in_pre name (nodes_of kids.now)) }
+    ensures { IfOk result (λ is. is ≡ is_right_here settings.now content round name (nodes_of kids.now)) }
 {
     if !settings.permits(name) {
         return Ok(false);
     }
-    if is_excluded(in_link, in_pre, name) {
+    if round.exclude(name) {
         return Ok(false);
     }
     let held = content_of(settings.doctype(), name, content);
     let is_word = are_word(alloc, settings.doctype(), held, kids)?;
     Ok(is_word)
-}
-
-// Whether an element stands in a link or a `pre` that excludes it.
-fn is_excluded(in_link: bool, in_pre: bool, name: Element) -> bool
-    ensures { result ≡ is_excluded_by in_link in_pre name }
-{
-    if in_link && excludes(Element::A, name) {
-        return true;
-    }
-    in_pre && excludes(Element::Pre, name)
 }
 
 // Whether the ids of nodes begin with the prefix, and none was seen or stands earlier; they are then seen.

@@ -106,7 +106,7 @@ abbrev position : ℕ → ℕ → ℕ → ℕ
 position n zero j = j
 position n (suc i) j = n + position n i j
 
-position-is : (i j : ℕ) → 43 * suc i + j ≡ 43 + position 43 i j
+position-is : (i j : ℕ) → 54 * suc i + j ≡ 54 + position 54 i j
 position-is zero j = omega arith
 position-is (suc i) j = rw (← position-is i j) (omega arith)
 
@@ -130,7 +130,7 @@ paired-behind g f xs ys i j x y at_x at_y =
     ∙ behind (map g ys) (flat_map (λ a. map (f a) ys) xs) (position (length ys) i j)
     ∙ paired f xs ys i j x y at_x at_y
 
-pub items_counted : length all_items ≡ 2623
+pub items_counted : length all_items ≡ 3834
 unfolding all_items
 items_counted = refl
 

@@ -12,7 +12,7 @@ use Rattle.pur_names.specs.declared.elements.Element.{Element}
 use Rattle.pur_names.specs.declared.properties.StyleProp.{StyleProp}
 use Rattle.pur_names.specs.declared.schemes.SchemeName.{SchemeName}
 use Rattle.pur_modules.specs.AttributeLists.{attributes_of, required_of}
-use Rattle.pur_modules.specs.Groups.{is_among, elements_of}
+use Rattle.pur_modules.specs.Groups.{is_among, elements_of, of_forms}
 use Rattle.pur_modules.specs.declared.kinds.Content.{Content}
 use Rattle.pur_modules.specs.declared.kinds.Content.TheVariants.{Flow, Inline}
 use Rattle.pur_modules.specs.declared.kinds.Doctype.{Doctype}
@@ -88,10 +88,12 @@ abbrev pub is_listed : {A : Type 0} → Option (List A) → List A → (A → Bo
 is_listed None denied test = not (list_any test denied)
 is_listed (Some list) denied test = list_any test list && not (list_any test denied)
 
--- whether an element may stand in what the filter writes: the doctype has it, and it is listed and not denied
+-- whether an element may stand in what the filter writes: the doctype has it, it is none of forms unless these may stand
+-- there, and it is listed and not denied
 abbrev pub permits_element : Rules → Element → Bool
 permits_element rules element =
-    is_among (elements_of rules.doctype) element && is_listed rules.elements rules.denied_elements (same_element element)
+    is_among (elements_of rules.doctype) element
+    && ((rules.forms || not (is_among of_forms element)) && is_listed rules.elements rules.denied_elements (same_element element))
 
 -- whether the element that was found for a name, if one was, may stand there
 abbrev pub permits_found : Rules → Option Element → Bool

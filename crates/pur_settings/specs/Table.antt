@@ -1,6 +1,6 @@
 -- The table of keys: this filter's own. Each row has a key, the kind and the members of its values, and what a value says
 -- of the settings; its default is that of the settings of a site that sets nothing.
-use Rattle.std.specs.Prelude.{ℕ, ℤ, pos, ◌||◌, Bool, List, [], ◌∷◌, Option, Some, None, Err, if◌then◌else◌, codes}
+use Rattle.std.specs.Prelude.{ℕ, ℤ, pos, ◌||◌, ◌&&◌, not, Bool, List, [], ◌∷◌, Option, Some, None, Err, if◌then◌else◌, codes}
 use Rattle.std.specs.Option.{option_and_then}
 use Rattle.std.specs.Ordering.{int_eq}
 use Rattle.std.specs.Str.{bytes_eq}
@@ -10,7 +10,7 @@ use Rattle.pur_names.specs.Elements.{all_elements, element_named, element_rank}
 use Rattle.pur_names.specs.Properties.{all_props, prop_named, prop_rank}
 use Rattle.pur_names.specs.Schemes.{all_schemes, scheme_named, scheme_rank}
 use Rattle.pur_names.specs.declared.elements.Element.{Element}
-use Rattle.pur_modules.specs.Groups.{is_among, elements_of}
+use Rattle.pur_modules.specs.Groups.{is_among, elements_of, of_forms}
 use Rattle.pur_modules.specs.declared.kinds.Content.{Content}
 use Rattle.pur_modules.specs.declared.kinds.Content.TheVariants.{Flow, Inline}
 use Rattle.pur_modules.specs.declared.kinds.Doctype.{Doctype}
@@ -55,10 +55,10 @@ content_in_parent text =
     if bytes_eq text (codes "div") then Some Flow else
     if bytes_eq text (codes "span") then Some Inline else None
 
--- the element of the doctype that has this name
+-- the element of the doctype that has this name, if it is none of forms
 abbrev pub element_of : Doctype → List ℕ → Option Element
 element_of doctype text =
-    option_and_then (λ element. if is_among (elements_of doctype) element then Some element else None) (element_named text)
+    option_and_then (λ element. if is_among (elements_of doctype) element && not (is_among of_forms element) then Some element else None) (element_named text)
 
 -- a text that is a canonical host, as it stands
 abbrev pub host_named : List ℕ → Option (List ℕ)

@@ -1,8 +1,10 @@
 //! The settings of a site.
 
-ghost use Rattle.std.specs.Prelude.{◌≡◌, ◌≢◌, IsTrue, ◌≤◌, ◌^◌, length, map, Some, Err, IfErr, is_some, not, ◌||◌, option_copied, string_bytes};
+ghost use Rattle.std.specs.Prelude.{◌≡◌, ◌≢◌, IsTrue, false, ◌≤◌, ◌^◌, length, map, Some, Err, IfErr, is_some, not, ◌&&◌, ◌||◌, option_copied, string_bytes};
 ghost use Rattle.std.specs.List.{list_all, list_any};
 ghost use Rattle.pur_text.specs.Hosts.{is_host};
+ghost use Rattle.pur_names.specs.Elements.{same_element};
+ghost use Rattle.pur_modules.specs.Groups.{is_among, of_forms};
 ghost use Rattle.pur_settings.specs.Items.{covers, is_language};
 ghost use Rattle.pur_settings.specs.Prefixes.{is_id_prefix};
 ghost use Rattle.pur_settings.specs.Rules.{default_rules, is_for_fragments, is_host_or_none, is_in_conflict, is_listed, permits_element, permits_attribute, permits_property, permits_a_scheme};
@@ -15,7 +17,7 @@ use crate::items::Item;
 use crate::name_set::{NameSet, Sort};
 use crate::reading::read_table;
 use crate::sorts::{Elements, Items, Properties, Schemes, has_attr};
-use pur_modules::{Content, Doctype, attributes, declares, required};
+use pur_modules::{Content, Doctype, attributes, declares, is_of_forms, required};
 use pur_names::{Attr, Element, SchemeName, StyleProp};
 use std::alloc::Global;
 use std::marker::Model;
@@ -24,7 +26,7 @@ use std::marker::Model;
 ///
 /// The fragment holds what a `div` holds or what a `span` holds, and nothing else. The hosts are canonical hosts, and the
 /// site's own is there where no other may be reached. What stands in front of ids is nothing, or an id by itself, of at
-/// most 64 bytes.
+/// most 64 bytes. The elements of forms may not stand in the output.
 #[derive(Drop)]
 pub struct Settings {
     attributes: Option<Items>,
@@ -50,7 +52,7 @@ pub struct Settings {
 
 impl Model for Settings {
     ghost use Rattle.std.specs.Prelude.{option_map, string_bytes};
-    ghost use Rattle.std.specs.Prelude.{IsTrue, is_some, ◌||◌};
+    ghost use Rattle.std.specs.Prelude.{◌≡◌, IsTrue, false, is_some, ◌||◌};
     ghost use Rattle.std.specs.List.{list_all};
     ghost use Rattle.pur_text.specs.Hosts.{is_host};
     ghost use Rattle.pur_settings.specs.Prefixes.{is_id_prefix};
@@ -84,6 +86,7 @@ impl Model for Settings {
     ghost invariant = { λ settings. record {
       parent : IsTrue (is_for_fragments settings.parent);
       denied : IsTrue (list_all is_host (texts_held settings.denied_hosts));
+      forms : settings.forms ≡ false;
       own : IsTrue (is_host_or_none (option_map string_bytes settings.host));
       prefix : IsTrue (is_id_prefix (text_held settings.id_prefix));
       reach : IsTrue (settings.external || is_some (option_map string_bytes settings.host));
@@ -145,12 +148,27 @@ impl Settings {
         }
     }
 
-    /// Whether the element may stand in what the filter writes: the doctype has it, the text's list has it, if there is
-    /// one, and it isn't denied.
+    /// Whether the element may stand in what the filter writes: the doctype has it, it is none of forms unless these may
+    /// stand there, the text's list has it, if there is one, and it isn't denied.
     pub fn permits(&self, element: Element) -> bool
         ensures { result ≡ permits_element self.now element }
     {
-        declares(self.doctype, element) && lists(&self.elements, &self.denied_elements, element)
+        declares(self.doctype, element) && self.lists_element(element)
+    }
+
+    // Whether the text's list has the element, if there is one, and it isn't denied; where none of forms may stand in the
+    // output, it is none of them.
+    fn lists_element(&self, element: Element) -> bool
+        ensures { result ≡ ((self.now.forms || not (is_among of_forms element)) && is_listed self.now.elements self.now.denied_elements (same_element element)) }
+    {
+        self.admits(element) && lists(&self.elements, &self.denied_elements, element)
+    }
+
+    // Whether the element is none of forms, unless these may stand in the output.
+    fn admits(&self, element: Element) -> bool
+        ensures { result ≡ (self.now.forms || not (is_among of_forms element)) }
+    {
+        self.forms || !is_of_forms(element)
     }
 
     /// The document type that the output follows.
@@ -243,9 +261,10 @@ impl Settings {
         self.escapes_foreign
     }
 
-    /// Whether the elements of forms may stand in the output.
+    /// Whether the elements of forms may stand in the output: no settings text can say so yet.
     pub fn forms(&self) -> bool
-        ensures { result ≡ self.now.forms }
+        ensures value { result ≡ self.now.forms }
+        ensures none { self.now.forms ≡ false }
     {
         self.forms
     }

@@ -141,7 +141,15 @@ fn values_of_another_kind(rt: HostRuntime) {
 }
 
 // Texts that aren't members.
-static OTHER_NAMES: [&str; 27] = [
+static OTHER_NAMES: [&str; 35] = [
+    "elements = ['form']",
+    "elements = ['b', 'input']\ndoctype = 'strict'",
+    "version = 2\nelements = ['form']",
+    "version = 2\ndenied_elements = ['option']",
+    "attributes = ['action']",
+    "attributes = ['rows']",
+    "version = 2\nattributes = ['form.title']",
+    "version = 2\ndenied_attributes = ['maxlength']",
     "attributes = ['onclick']",
     "attributes = ['name']",
     "attributes = ['CLASS']",

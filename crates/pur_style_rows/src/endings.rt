@@ -16,3 +16,13 @@ pub(crate) fn assert_none_fails(rt: &impl Abort, failing: Failing) {
 pub(crate) fn assert_holds(rt: &impl Abort, holds: Result<bool, AllocError>) {
     assert_eq!(rt; holds, Ok(true));
 }
+
+/// The name of the first row that is false.
+pub(crate) fn first_false(rows: &[(&'static str, bool)]) -> Option<&'static str> {
+    for (name, holds) in rows {
+        if !*holds {
+            return Some(*name);
+        }
+    }
+    None
+}

@@ -1,5 +1,5 @@
 //! Values typed by hand, each kind with its edges.
-use crate::endings::{Failing, assert_holds, assert_none_fails};
+use crate::endings::{Failing, assert_holds, assert_none_fails, first_false};
 use pur_names::{Attr, Element};
 use pur_values::{ValueKind, kind_of, read_value};
 use std::alloc::{AllocError, Global};
@@ -323,6 +323,119 @@ fn first_other_kind() -> Option<(Element, Attr)> {
 #[test]
 fn tells_kinds(rt: HostRuntime) {
     assert_eq!(rt; first_other_kind(), None);
+}
+
+fn number(least: u32, most: u32) -> ValueKind {
+    ValueKind::Number { least, most }
+}
+
+fn is_of(element: Element, attr: Attr, kind: ValueKind) -> bool {
+    kind_of(element, attr) == Some(kind)
+}
+
+fn is_flag(element: Element, attr: Attr) -> bool {
+    is_of(element, attr, ValueKind::Flag { attr })
+}
+
+fn is_keyword(element: Element, attr: Attr) -> bool {
+    is_of(element, attr, keyword(element, attr))
+}
+
+fn is_text(element: Element, attr: Attr) -> bool {
+    is_of(element, attr, ValueKind::Text)
+}
+
+fn first_other_kind_of_forms() -> Option<&'static str> {
+    let size = is_of(Element::Input, Attr::Size, number(1, 9999));
+    let rows = is_of(Element::Select, Attr::Size, number(1, 1000));
+    let length = is_of(Element::Input, Attr::Maxlength, number(0, 99999));
+    let area = is_of(Element::Textarea, Attr::Rows, number(1, 1000))
+        && is_of(Element::Textarea, Attr::Cols, number(1, 1000));
+    let item = is_of(Element::Li, Attr::Value, number(0, 99999));
+    first_false(&[
+        (
+            "`action` is a URI",
+            kind_of(Element::Form, Attr::Action).is_none(),
+        ),
+        ("`method`", is_keyword(Element::Form, Attr::Method)),
+        (
+            "the type of a control",
+            is_keyword(Element::Input, Attr::ListType)
+                && is_keyword(Element::Button, Attr::ListType),
+        ),
+        (
+            "the value of a control",
+            is_text(Element::Input, Attr::Value) && is_text(Element::Button, Attr::Value),
+        ),
+        (
+            "the value of an option",
+            is_text(Element::OptionItem, Attr::Value),
+        ),
+        ("the number of an item", item),
+        ("`alt` of a control", is_text(Element::Input, Attr::Alt)),
+        (
+            "labels of options",
+            is_text(Element::Optgroup, Attr::Label) && is_text(Element::OptionItem, Attr::Label),
+        ),
+        ("the size of a field", size),
+        ("the size of a list", rows),
+        ("the length of a field", length),
+        ("the size of an area", area),
+        ("`checked`", is_flag(Element::Input, Attr::Checked)),
+        ("`multiple`", is_flag(Element::Select, Attr::Multiple)),
+        ("`selected`", is_flag(Element::OptionItem, Attr::Selected)),
+        ("`readonly`", is_flag(Element::Textarea, Attr::Readonly)),
+        ("`disabled`", is_flag(Element::Optgroup, Attr::Disabled)),
+        (
+            "no `readonly` on a list",
+            kind_of(Element::Select, Attr::Readonly).is_none(),
+        ),
+        (
+            "`align` of a legend",
+            is_keyword(Element::Legend, Attr::Align),
+        ),
+    ])
+}
+
+static INPUTS: [Row; 4] = [
+    ("CheckBox", Some("checkbox"), "lower case"),
+    ("button", Some("button"), "a push button"),
+    ("file", None, "a type that is left out"),
+    ("image", None, "a picture"),
+];
+
+static BUTTONS: [Row; 3] = [
+    ("submit", Some("submit"), "a word of a button"),
+    ("text", None, "a word of a field"),
+    ("", None, "nothing"),
+];
+
+static METHODS: [Row; 2] = [
+    ("POST", Some("post"), "lower case"),
+    ("put", None, "another method"),
+];
+
+static LEGENDS: [Row; 2] = [
+    ("top", Some("top"), "a word of a legend"),
+    ("center", None, "a word of a table"),
+];
+
+#[test]
+fn tells_kinds_of_forms(rt: HostRuntime) {
+    assert_none_fails(&rt, Ok(first_other_kind_of_forms()));
+}
+
+#[test]
+fn reads_keywords_of_forms(rt: HostRuntime) {
+    let alloc = rt.alloc();
+    let input = keyword(Element::Input, Attr::ListType);
+    let button = keyword(Element::Button, Attr::ListType);
+    let method = keyword(Element::Form, Attr::Method);
+    let legend = keyword(Element::Legend, Attr::Align);
+    assert_none_fails(&rt, first_other(alloc, input, &INPUTS));
+    assert_none_fails(&rt, first_other(alloc, button, &BUTTONS));
+    assert_none_fails(&rt, first_other(alloc, method, &METHODS));
+    assert_none_fails(&rt, first_other(alloc, legend, &LEGENDS));
 }
 
 fn sevens(alloc: Global, count: usize) -> Result<String, AllocError> {

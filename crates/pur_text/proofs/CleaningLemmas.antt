@@ -40,14 +40,14 @@ chars_of-dropped b bytes e =
     ap (λ (o : Option ℕ). character_list o ++ chars_behind (bytes_behind_first o (decoded (b ∷ bytes)).size) bytes) e
 
 -- a byte that only continues a character
-chars_of-continues : (b : ℕ) (bytes : List ℕ) → continues b ≡ true → chars_of (b ∷ bytes) ≡ chars_of bytes
+pub chars_of-continues : (b : ℕ) (bytes : List ℕ) → continues b ≡ true → chars_of (b ∷ bytes) ≡ chars_of bytes
 chars_of-continues b bytes is =
     let l = b ∷ bytes in
     let none = continuation-alone (length l) b (slice_index l 1) (slice_index l 2) (slice_index l 3) (omega arith) is in
     chars_of-dropped b bytes (ap (λ (d : Decoded). d.char) none)
 
 -- a character's bytes at the front
-encoded_front : (first tail : List ℕ) (c : ℕ) → 0 < length first → decoded (first ++ tail) ≡ good c (length first) → chars_of (first ++ tail) ≡ c ∷ chars_of tail
+pub encoded_front : (first tail : List ℕ) (c : ℕ) → 0 < length first → decoded (first ++ tail) ≡ good c (length first) → chars_of (first ++ tail) ≡ c ∷ chars_of tail
 encoded_front [] tail c some e = absurd (omega arith)
 encoded_front (b ∷ first) tail c some e =
     chars_of-character b c (length (b ∷ first)) (first ++ tail) e ∙ ap (λ t. c ∷ chars_of t) (drop_at first tail _ (omega arith))
@@ -141,7 +141,7 @@ first_encoded (c ∷ cs) =
     grind (arith, nat_tests))
     (cases_lt c 128)
 
-first_line_feed : (bytes : List ℕ) → IsUtf8 bytes → slice_index (chars bytes) 0 == 0xA ≡ (slice_index bytes 0 == 0xA)
+pub first_line_feed : (bytes : List ℕ) → IsUtf8 bytes → slice_index (chars bytes) 0 == 0xA ≡ (slice_index bytes 0 == 0xA)
 first_line_feed bytes h =
     let cs = h.0 in
     let here : chars bytes ≡ cs = ap chars (sym h.1.1) ∙ chars-encodes cs h.1.0 in

@@ -1,4 +1,6 @@
 pub mod CleaningLemmas
+pub mod CutLemmas
+pub mod FeedingLemmas
 pub mod HostLaws
 pub mod HostLemmas
 pub mod RunLemmas

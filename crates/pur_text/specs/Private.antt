@@ -1,2 +1,3 @@
 -- Definitions that serve private contracts and views alone: no public contract says anything by them.
+pub mod Feeding
 pub mod Runs

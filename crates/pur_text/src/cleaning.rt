@@ -3,6 +3,7 @@ ghost use Rattle.std.specs.Prelude.{◌≡◌, [], ◌∷◌, ◌++◌, ◌<◌,
 ghost use Rattle.std.specs.Cow.{cow_str_bytes};
 ghost use Rattle.std.specs.Str.{chars, IsUtf8};
 ghost use Rattle.pur_text.specs.Characters.{is_allowed};
+ghost use Rattle.pur_text.specs.Private.Feeding.{BeginsWith};
 ghost use Rattle.pur_text.specs.Cleaning.{character_list, line_feed_for, chars_of, with_line_feeds, cleaned};
 
 use crate::characters::is_allowed;
@@ -76,19 +77,30 @@ fn clean_text(alloc: Global, text: &str) -> Result<String, AllocError>
     ensures { IfOk result (λ clean. chars (string_bytes clean) ≡ filter is_allowed (with_line_feeds (chars text.now))) }
 {
     let mut clean = String::new(alloc);
+    clean_onto(&mut clean, text)?;
+    Ok(clean)
+}
+
+/// Writes the allowed characters of the text behind what is there, with its line ends as LF. Where memory is wanting, a front
+/// of them may be written.
+pub(crate) fn clean_onto(clean: &mut String, text: &str) -> Result<(), AllocError>
+    ensures text { OnOk result (chars (string_bytes clean.new) ≡ chars (string_bytes clean.old) ++ filter is_allowed (with_line_feeds (chars text.now))) }
+    ensures begins { BeginsWith (string_bytes clean.old) (string_bytes clean.new) }
+{
     let mut rest = text;
     'cleaning: while let Some(end) = run_end(rest.as_bytes()) {
         let (run, behind) = rest.split_at(end);
         clean.push_str(run)?;
-        rest = push_first(&mut clean, behind)?;
+        rest = push_first(clean, behind)?;
     }
     clean.push_str(rest)?;
-    Ok(clean)
+    Ok(())
 }
 
 /// Writes what stands for the first character of the text, and gives the text behind it.
 fn push_first<'a>(clean: &mut String, text: &'a str) -> Result<&'a str, AllocError>
     requires { 0 < length text.now }
+    ensures begins { BeginsWith (string_bytes clean.old) (string_bytes clean.new) }
     ensures text { IfOk result (λ behind. IsUtf8 behind.now) }
     ensures shorter { IfOk result (λ behind. length behind.now < length text.now) }
     ensures step { IfOk result (λ behind. chars (string_bytes clean.new) ++ filter is_allowed (with_line_feeds (chars behind.now))
@@ -104,7 +116,8 @@ fn push_first<'a>(clean: &mut String, text: &'a str) -> Result<&'a str, AllocErr
 
 /// Writes the character, if there is one.
 fn push_kept(clean: &mut String, kept: Option<char>) -> Result<(), AllocError>
-    ensures { OnOk result (chars (string_bytes clean.new) ≡ chars (string_bytes clean.old) ++ character_list kept) }
+    ensures text { OnOk result (chars (string_bytes clean.new) ≡ chars (string_bytes clean.old) ++ character_list kept) }
+    ensures begins { BeginsWith (string_bytes clean.old) (string_bytes clean.new) }
 {
     if let Some(c) = kept {
         push_character(clean, c)?;
@@ -113,7 +126,8 @@ fn push_kept(clean: &mut String, kept: Option<char>) -> Result<(), AllocError>
 }
 
 fn push_character(clean: &mut String, c: char) -> Result<(), AllocError>
-    ensures { OnOk result (chars (string_bytes clean.new) ≡ chars (string_bytes clean.old) ++ c ∷ []) }
+    ensures text { OnOk result (chars (string_bytes clean.new) ≡ chars (string_bytes clean.old) ++ c ∷ []) }
+    ensures begins { BeginsWith (string_bytes clean.old) (string_bytes clean.new) }
 {
     clean.push(c)?;
     Ok(())

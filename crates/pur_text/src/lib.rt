@@ -5,6 +5,7 @@
 mod addresses;
 mod characters;
 mod cleaning;
+mod feeding;
 mod hosts;
 mod laws;
 mod runs;
@@ -12,8 +13,10 @@ mod trimming;
 
 pub use characters::{is_allowed, is_space, lower_ascii};
 pub use cleaning::{clean, clean_if_needed};
+pub use feeding::Cleaner;
 pub use hosts::is_host;
 pub use laws::{
-    allowed_is_cleaned, cleaned_is_allowed, cleaning_settles, host_is_lowered, host_is_plain,
+    allowed_is_cleaned, cleaned_is_allowed, cleaning_goes_over_a_cut, cleaning_settles,
+    host_is_lowered, host_is_plain,
 };
 pub use trimming::trim;

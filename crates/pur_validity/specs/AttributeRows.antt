@@ -2,7 +2,7 @@
 use Rattle.std.specs.Prelude.{ℕ, ◌≡◌, true, false, List, [], ◌∷◌, Some, None, codes}
 use Rattle.pur_names.specs.declared.attributes.Attr.TheVariants.{Lang}
 use Rattle.pur_names.specs.declared.elements.Element.{Element}
-use Rattle.pur_names.specs.declared.elements.Element.TheVariants.{A, Bdo, Div, Img, P}
+use Rattle.pur_names.specs.declared.elements.Element.TheVariants.{A, Bdo, Div, Form, Img, P, Textarea}
 use Rattle.pur_settings.specs.Rules.{Rules, default_rules}
 use Rattle.pur_settings.specs.declared.items.Item.TheVariants.{Everywhere}
 use Rattle.pur_attrlist.specs.Attributes.{Attribute}
@@ -88,3 +88,13 @@ SourcesAreFetched = Beside default_rules (el A ((codes "href", codes "mailto:a@b
 -- `<p style="color:#ff0000;"></p>`; `<p style="color:red"></p>`
 abbrev pub StylesAreCanonical : Type 0
 StylesAreCanonical = Beside default_rules (el P ((codes "style", codes "color:#ff0000;") ∷ [])) (el P ((codes "style", codes "color:red") ∷ []))
+
+-- `<form action="http://example.com/"></form>`; a scheme that isn't permitted
+abbrev pub FormsAreSentToLinks : Type 0
+FormsAreSentToLinks =
+    Beside default_rules (el Form ((codes "action", codes "http://example.com/") ∷ [])) (el Form ((codes "action", codes "javascript:x") ∷ []))
+
+-- `<textarea rows="4" cols="40"></textarea>`; one without `cols`
+abbrev pub FieldsOfTextHaveASize : Type 0
+FieldsOfTextHaveASize =
+    Beside default_rules (el Textarea ((codes "rows", codes "4") ∷ (codes "cols", codes "40") ∷ [])) (el Textarea ((codes "rows", codes "4") ∷ []))

@@ -5,7 +5,7 @@ use Rattle.std.specs.List.{list_all, list_any}
 use Rattle.std.specs.Option.{option_and_then, option_map, option_map_or}
 use Rattle.pur_names.specs.Attributes.{attr_name, attr_named}
 use Rattle.pur_names.specs.declared.attributes.Attr.{Attr}
-use Rattle.pur_names.specs.declared.attributes.Attr.TheVariants.{Cite, Href, Longdesc, Src, Style}
+use Rattle.pur_names.specs.declared.attributes.Attr.TheVariants.{Action, Cite, Href, Longdesc, Src, Style}
 use Rattle.pur_names.specs.declared.elements.Element.{Element}
 use Rattle.pur_modules.specs.AttributeLists.{required_of}
 use Rattle.pur_cssprops.specs.Styles.{style_read}
@@ -24,9 +24,10 @@ use Rattle.pur_tree.specs.Nodes.{PlainElem, Nodes, no_nodes, text_first, elem_fi
 abbrev pub uri_on : Rules → PlainHostRule → UriUse → List ℕ → Option (List ℕ)
 uri_on rules rule purpose raw = option_map uri_text (uri_under rules rule purpose raw)
 
--- what the value of an attribute on an element is read as: a link or a picture's source by its URI, a style by its declarations,
--- any other by its kind
+-- what the value of an attribute on an element is read as: a link, the action of a form, or a picture's source by its URI, a style
+-- by its declarations, any other by its kind
 abbrev pub value_on : Rules → PlainHostRule → Element → Attr → List ℕ → Option (List ℕ)
+value_on rules rule element Action raw = uri_on rules rule Link raw
 value_on rules rule element Cite raw = uri_on rules rule Link raw
 value_on rules rule element Href raw = uri_on rules rule Link raw
 value_on rules rule element Longdesc raw = uri_on rules rule Link raw

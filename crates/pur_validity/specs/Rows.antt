@@ -10,14 +10,14 @@ use Rattle.pur_uripolicy.specs.HostRules.{PlainHostRule}
 use Rattle.pur_validity.specs.Deciding.{are_valid}
 
 -- a text, an element with its children, and nodes one behind the other
-abbrev says : List ℕ → Nodes
+abbrev pub says : List ℕ → Nodes
 says text = text_first text no_nodes
 
-abbrev all : List Nodes → Nodes
+abbrev pub all : List Nodes → Nodes
 all [] = no_nodes
 all (first ∷ more) = nodes_append first (all more)
 
-abbrev of : Element → List Nodes → Nodes
+abbrev pub of : Element → List Nodes → Nodes
 of element children = elem_first (bare element) (all children) no_nodes
 
 -- so many elements, each in the one before

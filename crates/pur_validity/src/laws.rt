@@ -2,7 +2,8 @@
 
 ghost use Rattle.pur_validity.specs.Laws.{ValidityIsDecided, AttributesAreDecided};
 ghost use Rattle.pur_validity.specs.Rows.{TextInAFragment, BlocksInNoInline, ListsHaveItems, CaptionsComeFirst, TablesHaveBodies, FeetComeBeforeBodies, BodiesAreOfOneKind, CellsStandInRows, RowsHaveCells, LinksStandInNoLink, NothingBigInPre, EditsHoldWhatTheirParentHolds, StrictQuotesHoldBlocks, ElementsArePermitted, FragmentsHaveParents, LevelsEnd};
-ghost use Rattle.pur_validity.specs.AttributeRows.{AttributesAreDeclared, AttributesAreListed, ValuesAreReadAsThemselves, RequiredOnesAreThere, LanguagesAreTheSame, IdsNeedTheSetting, IdsHaveThePrefix, IdsAreDistinct, LinksAreCanonical, PicturesHaveATextInTheirPlace, SourcesAreFetched, StylesAreCanonical};
+ghost use Rattle.pur_validity.specs.AttributeRows.{AttributesAreDeclared, AttributesAreListed, ValuesAreReadAsThemselves, RequiredOnesAreThere, LanguagesAreTheSame, IdsNeedTheSetting, IdsHaveThePrefix, IdsAreDistinct, LinksAreCanonical, PicturesHaveATextInTheirPlace, SourcesAreFetched, StylesAreCanonical, FormsAreSentToLinks, FieldsOfTextHaveASize};
+ghost use Rattle.pur_validity.specs.FormRows.{FormsNeedTheSetting, FormsStandInNoForm, LabelsStandInNoLabel, LinksStandInNoButton, LegendsComeFirst, ChoicesAreOptions, StrictFormsHoldBlocks};
 
 use pur_models::words_are_decided;
 
@@ -33,6 +34,17 @@ pub fn worked_examples()
     ensures levels { LevelsEnd }
 {}
 
+/// Worked examples of forms, where settings let them through, and neighbours that one rule refuses.
+pub fn form_examples()
+    ensures setting { FormsNeedTheSetting }
+    ensures forms { FormsStandInNoForm }
+    ensures labels { LabelsStandInNoLabel }
+    ensures buttons { LinksStandInNoButton }
+    ensures legends { LegendsComeFirst }
+    ensures choices { ChoicesAreOptions }
+    ensures strict { StrictFormsHoldBlocks }
+{}
+
 /// Nodes have valid attributes exactly where a test that computes finds them so.
 pub fn attributes_are_decided()
     ensures { AttributesAreDecided }
@@ -52,4 +64,6 @@ pub fn attribute_examples()
     ensures pictures { PicturesHaveATextInTheirPlace }
     ensures sources { SourcesAreFetched }
     ensures styles { StylesAreCanonical }
+    ensures actions { FormsAreSentToLinks }
+    ensures fields { FieldsOfTextHaveASize }
 {}

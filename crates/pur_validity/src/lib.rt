@@ -10,5 +10,7 @@
 mod laws;
 mod reading;
 
-pub use laws::{attribute_examples, attributes_are_decided, validity_is_decided, worked_examples};
+pub use laws::{
+    attribute_examples, attributes_are_decided, form_examples, validity_is_decided, worked_examples,
+};
 pub use reading::{Reading, read_attribute};

@@ -29,8 +29,8 @@ pub struct Reading {
 }
 
 /// What the value of an attribute is read as, where an attribute has the name, is declared on the element and permitted, and the
-/// value has a reading; None where not. A link or a picture's source is read by its URI, a style by its declarations, any other
-/// value by its kind.
+/// value has a reading; None where not. A link, the action of a form, or a picture's source is read by its URI, a style by its
+/// declarations, any other value by its kind.
 ///
 /// The error is want of memory.
 ///
@@ -71,7 +71,7 @@ fn read_on<F: UriTest>(
 {
     match attr {
         Attr::Src => read_source(alloc, settings, gate, raw),
-        Attr::Cite | Attr::Href | Attr::Longdesc => {
+        Attr::Action | Attr::Cite | Attr::Href | Attr::Longdesc => {
             Ok(sourceless(read_link(alloc, settings, gate, raw)?))
         }
         Attr::Style => Ok(sourceless(canon_style(alloc, settings, gate, raw)?)),
@@ -108,7 +108,7 @@ fn read_by_kind(
     }
 }
 
-// The text of the URI that a link is read as, where it is admissible.
+// The text of the URI that a link or the action of a form is read as, where it is admissible.
 fn read_link<F: UriTest>(
     alloc: Global,
     settings: &Settings,

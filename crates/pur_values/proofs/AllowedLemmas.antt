@@ -10,15 +10,15 @@ use Rattle.pur_laws.proofs.Lists.{all-append, all-kept, all-weaker}
 use Rattle.pur_laws.proofs.Tests.{kept, all-named}
 use Rattle.pur_text.specs.Characters.{is_allowed}
 use Rattle.pur_text.specs.Trimming.{trimmed}
+use Rattle.pur_names.proofs.ElementLaws.{each_element}
 use Rattle.pur_names.specs.Attributes.{attr_name, all_attrs, attr_rank}
 use Rattle.pur_names.specs.declared.attributes.Attr.{Attr}
 use Rattle.pur_names.specs.declared.attributes.Attr.TheVariants as attr
 use Rattle.pur_names.specs.declared.elements.Element.{Element}
-use Rattle.pur_names.specs.declared.elements.Element.TheVariants.{Caption, Hr, Img, Table}
 use Rattle.pur_names.proofs.AttrLaws.{all_attrs-rank}
 use Rattle.pur_csstok.specs.Atoms.{is_color}
 use Rattle.pur_csstok.specs.Colors as style
-use Rattle.pur_values.specs.Choices.{alignments, words_of, bullets, numberings, bullet_of, numbering_of, item_of, lowered_among, is_font_size, is_size_digit}
+use Rattle.pur_values.specs.Choices.{alignments, control_types, words_of, bullets, numberings, bullet_of, numbering_of, item_of, lowered_among, is_font_size, is_size_digit}
 use Rattle.pur_values.specs.Colors.{color_of, is_bare}
 use Rattle.pur_values.specs.Kinds.{is_declared, keywords_of}
 use Rattle.pur_values.specs.Laws.{IsSound}
@@ -119,14 +119,14 @@ color-allowed (c ∷ digits) is =
 -- ---- words and names
 
 alignments_allowed : (element : Element) → list_all are_allowed (alignments element) ≡ true
-alignments_allowed Caption = refl
-alignments_allowed Img = refl
-alignments_allowed Table = refl
-alignments_allowed Hr = refl
-alignments_allowed element = refl
+alignments_allowed = each_element (λ e. list_all are_allowed (alignments e)) refl
+
+controls_allowed : (element : Element) → list_all are_allowed (control_types element) ≡ true
+controls_allowed = each_element (λ e. list_all are_allowed (control_types e)) refl
 
 words_allowed : (element : Element) (a : Attr) → list_all are_allowed (words_of element a) ≡ true
 words_allowed element attr.Align = alignments_allowed element
+words_allowed element attr.ListType = controls_allowed element
 words_allowed element a = refl
 
 keywords-allowed : (element : Element) (a : Attr) → list_all are_allowed (keywords_of element a) ≡ true

@@ -11,15 +11,15 @@ use Rattle.pur_laws.proofs.Lists.{all-weaker}
 use Rattle.pur_laws.proofs.Tests.{not_empty, all-named}
 use Rattle.pur_laws.proofs.Texts.{is_ascii}
 use Rattle.pur_text.specs.Characters.{is_space}
+use Rattle.pur_names.proofs.ElementLaws.{each_element}
 use Rattle.pur_names.specs.Attributes.{attr_name, all_attrs, attr_rank}
 use Rattle.pur_names.specs.declared.attributes.Attr.{Attr}
 use Rattle.pur_names.specs.declared.attributes.Attr.TheVariants as attr
 use Rattle.pur_names.specs.declared.elements.Element.{Element}
-use Rattle.pur_names.specs.declared.elements.Element.TheVariants.{Caption, Hr, Img, Table}
 use Rattle.pur_names.proofs.AttrLaws.{all_attrs-rank}
 use Rattle.pur_csstok.specs.Atoms.{is_color}
 use Rattle.pur_csstok.specs.Colors as style
-use Rattle.pur_values.specs.Choices.{alignments, words_of, numberings, is_font_size, is_size_digit}
+use Rattle.pur_values.specs.Choices.{alignments, control_types, words_of, numberings, is_font_size, is_size_digit}
 use Rattle.pur_values.specs.Colors.{is_bare, is_hex_digit}
 use Rattle.pur_values.specs.Kinds.{is_declared, keywords_of}
 use Rattle.pur_values.specs.Numbers.{is_pixel_unit}
@@ -152,14 +152,14 @@ color-solid (c ∷ digits) is =
 -- ---- the words of attributes
 
 alignments_solid : (element : Element) → list_all (list_all is_solid) (alignments element) ≡ true
-alignments_solid Caption = refl
-alignments_solid Img = refl
-alignments_solid Table = refl
-alignments_solid Hr = refl
-alignments_solid element = refl
+alignments_solid = each_element (λ e. list_all (list_all is_solid) (alignments e)) refl
+
+controls_solid : (element : Element) → list_all (list_all is_solid) (control_types element) ≡ true
+controls_solid = each_element (λ e. list_all (list_all is_solid) (control_types e)) refl
 
 words_solid : (element : Element) (a : Attr) → list_all (list_all is_solid) (words_of element a) ≡ true
 words_solid element attr.Align = alignments_solid element
+words_solid element attr.ListType = controls_solid element
 words_solid element a = refl
 
 pub keywords-solid : (element : Element) (a : Attr) → list_all (list_all is_solid) (keywords_of element a) ≡ true

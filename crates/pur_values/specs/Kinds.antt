@@ -7,7 +7,7 @@ use Rattle.pur_names.specs.Elements.{same_element, all_elements}
 use Rattle.pur_names.specs.declared.attributes.Attr.{Attr}
 use Rattle.pur_names.specs.declared.attributes.Attr.TheVariants as attr
 use Rattle.pur_names.specs.declared.elements.Element.{Element}
-use Rattle.pur_names.specs.declared.elements.Element.TheVariants.{A, Br, Caption, Col, Colgroup, Dir, Div, Dl, Font, H1, H2, H3, H4, H5, H6, Hr, Img, Li, Menu, Ol, P, Pre, Table, Tbody, Td, Tfoot, Th, Thead, Tr, Ul}
+use Rattle.pur_names.specs.declared.elements.Element.TheVariants.{A, Br, Button, Caption, Col, Colgroup, Dir, Div, Dl, Font, Form, H1, H2, H3, H4, H5, H6, Hr, Img, Input, Legend, Li, Menu, Ol, Optgroup, OptionItem, P, Pre, Select, Table, Tbody, Td, Textarea, Tfoot, Th, Thead, Tr, Ul}
 use Rattle.pur_modules.specs.AttributeLists.{attributes_of}
 use Rattle.pur_modules.specs.Groups.{is_among}
 use Rattle.pur_modules.specs.declared.kinds.Doctype.{Doctype}
@@ -56,10 +56,10 @@ table =
     row all_elements (attr.Id ∷ []) (are kind.Id) ∷ row all_elements (attr.Class ∷ []) (are kind.Class)
     ∷ row all_elements (attr.Title ∷ []) (are kind.Text) ∷ row but_a_break (attr.Lang ∷ attr.XmlLang ∷ []) (are kind.Lang)
     ∷ row but_a_break (attr.Dir ∷ []) keyword ∷ row (A ∷ []) (attr.Rel ∷ []) (are kind.Rel)
-    ∷ row (A ∷ []) (attr.Target ∷ []) keyword ∷ row (Img ∷ []) (attr.Alt ∷ []) (are kind.Text)
+    ∷ row (A ∷ []) (attr.Target ∷ []) keyword ∷ row (Img ∷ Input ∷ []) (attr.Alt ∷ []) (are kind.Text)
     ∷ row (Img ∷ Table ∷ Td ∷ Th ∷ Hr ∷ []) (attr.Width ∷ []) (are kind.Length)
     ∷ row (Img ∷ Td ∷ Th ∷ []) (attr.Height ∷ []) (are kind.Length)
-    ∷ row (Img ∷ Table ∷ Caption ∷ Hr ∷ []) (attr.Align ∷ []) keyword
+    ∷ row (Img ∷ Table ∷ Caption ∷ Legend ∷ Hr ∷ []) (attr.Align ∷ []) keyword
     ∷ row (Img ∷ []) (attr.Border ∷ attr.Hspace ∷ attr.Vspace ∷ []) (are kind.Pixels)
     ∷ row (Table ∷ []) (attr.Summary ∷ []) (are kind.Text) ∷ row (Table ∷ []) (attr.Border ∷ []) (are kind.Pixels)
     ∷ row (Table ∷ []) (attr.Frame ∷ attr.Rules ∷ []) keyword
@@ -77,7 +77,17 @@ table =
     ∷ row (Ul ∷ Ol ∷ Dl ∷ Dir ∷ Menu ∷ []) (attr.Compact ∷ []) flag
     ∷ row (Ol ∷ []) (attr.Start ∷ []) (are (kind.Number 0 99999)) ∷ row (Li ∷ []) (attr.Value ∷ []) (are (kind.Number 0 99999))
     ∷ row (Pre ∷ []) (attr.Width ∷ []) (are (kind.Number 1 9999)) ∷ row (Font ∷ []) (attr.Size ∷ []) (are kind.FontSize)
-    ∷ row (Font ∷ []) (attr.Color ∷ []) (are kind.Color) ∷ row (Font ∷ []) (attr.Face ∷ []) (are kind.Text) ∷ []
+    ∷ row (Font ∷ []) (attr.Color ∷ []) (are kind.Color) ∷ row (Font ∷ []) (attr.Face ∷ []) (are kind.Text)
+    ∷ row (Form ∷ []) (attr.Method ∷ []) keyword ∷ row (Input ∷ Button ∷ []) (attr.ListType ∷ []) keyword
+    ∷ row (Input ∷ OptionItem ∷ Button ∷ []) (attr.Value ∷ []) (are kind.Text)
+    ∷ row (Optgroup ∷ OptionItem ∷ []) (attr.Label ∷ []) (are kind.Text)
+    ∷ row (Input ∷ []) (attr.Checked ∷ []) flag
+    ∷ row (Input ∷ Select ∷ Optgroup ∷ OptionItem ∷ Textarea ∷ Button ∷ []) (attr.Disabled ∷ []) flag
+    ∷ row (Input ∷ Textarea ∷ []) (attr.Readonly ∷ []) flag ∷ row (Select ∷ []) (attr.Multiple ∷ []) flag
+    ∷ row (OptionItem ∷ []) (attr.Selected ∷ []) flag ∷ row (Input ∷ []) (attr.Size ∷ []) (are (kind.Number 1 9999))
+    ∷ row (Input ∷ []) (attr.Maxlength ∷ []) (are (kind.Number 0 99999))
+    ∷ row (Select ∷ []) (attr.Size ∷ []) (are (kind.Number 1 1000))
+    ∷ row (Textarea ∷ []) (attr.Rows ∷ attr.Cols ∷ []) (are (kind.Number 1 1000)) ∷ []
 
 -- the kind in the first row that has the element and the attribute
 abbrev pub kind_in : List Row → Element → Attr → Option ValueKind
@@ -102,7 +112,7 @@ is_declared element attr = declares Strict element attr || declares Transitional
 -- what has a reader of its own, and the name that becomes an identifier
 abbrev pub is_elsewhere : Attr → Bool
 is_elsewhere a =
-    list_any (same_attr a) (attr.Cite ∷ attr.Href ∷ attr.Longdesc ∷ attr.Name ∷ attr.Src ∷ attr.Style ∷ [])
+    list_any (same_attr a) (attr.Action ∷ attr.Cite ∷ attr.Href ∷ attr.Longdesc ∷ attr.Name ∷ attr.Src ∷ attr.Style ∷ [])
 
 -- the words that an attribute takes on an element: none where it isn't declared
 abbrev pub keywords_of : Element → Attr → List (List ℕ)

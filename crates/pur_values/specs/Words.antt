@@ -1,8 +1,7 @@
 -- Letters and digits of ASCII, lists of words, and a text that is kept only where it has a form.
-use Rattle.std.specs.Prelude.{ℕ, ◌||◌, Bool, List, String, string_bytes, Option, Some, None, if◌then◌else◌}
+use Rattle.std.specs.Prelude.{ℕ, ◌||◌, Bool, List, Option, Some, None, if◌then◌else◌}
 use Rattle.std.specs.List.{list_any}
-use Rattle.std.specs.Str.{bytes_eq, chars}
-use Rattle.std.specs.declared.alloc.Global.{Global}
+use Rattle.std.specs.Str.{bytes_eq}
 use Rattle.pur_text.specs.Characters.{is_between}
 
 -- a decimal digit

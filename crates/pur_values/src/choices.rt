@@ -3,7 +3,7 @@ ghost use Rattle.std.specs.Prelude.{◌≡◌, IfOk, IsTrue, option_map, map};
 ghost use Rattle.std.specs.Char.{is_ascii};
 ghost use Rattle.std.specs.List.{list_all};
 ghost use Rattle.std.specs.Str.{chars};
-ghost use Rattle.pur_values.specs.Choices.{alignments, bullets, bullet_of, is_font_size, is_size_digit, item_of, lowered_among, numberings, numbering_of, words_of};
+ghost use Rattle.pur_values.specs.Choices.{alignments, bullets, bullet_of, control_types, is_font_size, is_size_digit, item_of, lowered_among, numberings, numbering_of, words_of};
 ghost use Rattle.pur_values.specs.Kinds.{keywords_of};
 ghost use Rattle.pur_text.specs.Texts.{text_of};
 ghost use Rattle.pur_values.specs.Words.{is_among};
@@ -36,6 +36,14 @@ const FRAMES: [&str; 9] = [
 const RULES: [&str; 5] = ["none", "groups", "rows", "cols", "all"];
 
 const SCOPES: [&str; 4] = ["row", "col", "rowgroup", "colgroup"];
+
+const INPUTS: [&str; 8] = [
+    "text", "password", "checkbox", "radio", "submit", "reset", "hidden", "button",
+];
+
+const BUTTONS: [&str; 3] = ["button", "submit", "reset"];
+
+const METHODS: [&str; 2] = ["get", "post"];
 
 const TARGETS: [&str; 4] = ["_blank", "_self", "_parent", "_top"];
 
@@ -91,6 +99,8 @@ fn words_of(element: Element, attr: Attr) -> &'static [&'static str]
         Attr::Clear => &CLEARED,
         Attr::Dir => &DIRECTIONS,
         Attr::Frame => &FRAMES,
+        Attr::ListType => control_types(element),
+        Attr::Method => &METHODS,
         Attr::Rules => &RULES,
         Attr::Scope => &SCOPES,
         Attr::Target => &TARGETS,
@@ -103,10 +113,20 @@ fn alignments(element: Element) -> &'static [&'static str]
     ensures { map (λ w. w.now) result.now ≡ alignments element }
 {
     match element {
-        Element::Caption => &CAPTION_SIDES,
+        Element::Caption | Element::Legend => &CAPTION_SIDES,
         Element::Img => &IMAGE_SIDES,
         Element::Table | Element::Hr => &SIDES,
         _ => &MARGINS,
+    }
+}
+
+fn control_types(element: Element) -> &'static [&'static str]
+    ensures { map (λ w. w.now) result.now ≡ control_types element }
+{
+    match element {
+        Element::Input => &INPUTS,
+        Element::Button => &BUTTONS,
+        _ => &[],
     }
 }
 

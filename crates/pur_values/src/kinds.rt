@@ -3,7 +3,7 @@ ghost use Rattle.std.specs.Prelude.{◌≡◌, ◌&&◌, ◌||◌, not, is_some,
 ghost use Rattle.std.specs.List.{list_any};
 ghost use Rattle.pur_names.specs.Attributes.{same_attr};
 ghost use Rattle.pur_values.specs.Laws.{IsSound};
-ghost use Rattle.pur_values.specs.Private.ByName.{declared_kind, kind_by_name, size_kind, type_kind, width_kind};
+ghost use Rattle.pur_values.specs.Private.ByName.{declared_kind, kind_by_name, size_kind, type_kind, value_kind, width_kind};
 ghost use Rattle.pur_values.specs.Kinds.{is_declared, is_elsewhere, kind_of};
 
 use pur_modules::{Doctype, attributes};
@@ -52,8 +52,8 @@ pub enum ValueKind {
 
 /// The kind of the attribute's values on the element, under either doctype.
 ///
-/// There is none for `href`, `src`, `longdesc`, `cite`, `style` and `name`, and for an attribute that neither doctype
-/// declares on the element.
+/// There is none for `href`, `src`, `longdesc`, `cite`, `action`, `style` and `name`, and for an attribute that neither
+/// doctype declares on the element.
 ///
 /// Source: HTML 4.01, the index of attributes.
 pub fn kind_of(element: Element, attr: Attr) -> Option<ValueKind>
@@ -95,11 +95,13 @@ fn kind_by_name(element: Element, attr: Attr) -> Option<ValueKind>
     ensures { result ≡ kind_by_name element attr }
 {
     let kind = match attr {
-        Attr::Abbr | Attr::Alt | Attr::Face | Attr::Summary | Attr::Title => ValueKind::Text,
+        Attr::Abbr | Attr::Alt | Attr::Face | Attr::Label | Attr::Summary | Attr::Title =>
+            ValueKind::Text,
         Attr::Align
         | Attr::Clear
         | Attr::Dir
         | Attr::Frame
+        | Attr::Method
         | Attr::Rules
         | Attr::Scope
         | Attr::Target
@@ -107,17 +109,30 @@ fn kind_by_name(element: Element, attr: Attr) -> Option<ValueKind>
         Attr::Bgcolor | Attr::Color => ValueKind::Color,
         Attr::Border | Attr::Hspace | Attr::Vspace => ValueKind::Pixels,
         Attr::Cellpadding | Attr::Cellspacing | Attr::Height => ValueKind::Length,
-        Attr::Cite | Attr::Href | Attr::Longdesc | Attr::Name | Attr::Src | Attr::Style =>
-            return None,
+        Attr::Action
+        | Attr::Cite
+        | Attr::Href
+        | Attr::Longdesc
+        | Attr::Name
+        | Attr::Src
+        | Attr::Style => return None,
         Attr::Class => ValueKind::Class,
-        Attr::Colspan | Attr::Rowspan | Attr::Span => number(1, 1000),
-        Attr::Compact | Attr::Noshade | Attr::Nowrap => ValueKind::Flag { attr },
+        Attr::Cols | Attr::Colspan | Attr::Rows | Attr::Rowspan | Attr::Span => number(1, 1000),
+        Attr::Checked
+        | Attr::Compact
+        | Attr::Disabled
+        | Attr::Multiple
+        | Attr::Noshade
+        | Attr::Nowrap
+        | Attr::Readonly
+        | Attr::Selected => ValueKind::Flag { attr },
         Attr::Id => ValueKind::Id,
         Attr::Lang | Attr::XmlLang => ValueKind::Lang,
         Attr::ListType => type_kind(element),
         Attr::Rel => ValueKind::Rel,
         Attr::Size => size_kind(element),
-        Attr::Start | Attr::Value => number(0, 99999),
+        Attr::Maxlength | Attr::Start => number(0, 99999),
+        Attr::Value => value_kind(element),
         Attr::Width => width_kind(element),
     };
     Some(kind)
@@ -144,6 +159,8 @@ fn size_kind(element: Element) -> ValueKind
 {
     match element {
         Element::Font => ValueKind::FontSize,
+        Element::Input => number(1, 9999),
+        Element::Select => number(1, 1000),
         _ => ValueKind::Pixels,
     }
 }
@@ -154,6 +171,19 @@ fn type_kind(element: Element) -> ValueKind
     match element {
         Element::Ul => ValueKind::BulletType,
         Element::Ol => ValueKind::NumberType,
+        Element::Input | Element::Button => ValueKind::Keyword {
+            element,
+            attr: Attr::ListType,
+        },
         _ => ValueKind::ItemType,
+    }
+}
+
+fn value_kind(element: Element) -> ValueKind
+    ensures { result ≡ value_kind element }
+{
+    match element {
+        Element::Li => number(0, 99999),
+        _ => ValueKind::Text,
     }
 }

@@ -1,16 +1,16 @@
 -- What closing writes is balanced, and its tree is a forest in which no two attributes of an element have one name.
-use Rattle.std.proofs.Common.{◌≡◌, ◌<◌, ℕ, List, [], ◌∷◌, ◌++◌, length, Bool, true, false, not, ◌&&◌, ◌||◌, nat_lt, refl, ap, sym, subst, arith, length-append}
+use Rattle.std.proofs.Common.{◌≡◌, ℕ, List, [], ◌∷◌, ◌++◌, length, Bool, true, not, ◌&&◌, nat_lt, refl, ap, sym, subst, arith, length-append}
 use Rattle.std.specs.List.{list_all}
 use Rattle.std.proofs.lemmas.Bool.{and_parts, and_from, not-true, lt-ltb, ltb-true}
 use Rattle.pur_names.specs.declared.elements.Element.{Element}
 use Rattle.pur_modules.specs.Contents.{is_empty_element}
-use Rattle.pur_attrlist.specs.Attributes.{Attribute, is_distinct}
+use Rattle.pur_attrlist.specs.Attributes.{is_distinct}
 use Rattle.pur_tokens.specs.Distinct.{shows_distinct}
 use Rattle.pur_tokens.specs.Tokens as read
-use Rattle.pur_settings.specs.Rules.{Rules, permits_name}
-use Rattle.pur_tree.specs.Nodes.{PlainElem, Nodes, no_nodes, text_first, elem_first, has_no_nodes, is_sound}
+use Rattle.pur_settings.specs.Rules.{Rules}
+use Rattle.pur_tree.specs.Nodes.{PlainElem, Nodes, is_sound}
 use Rattle.pur_tree.specs.Spelling.{has_distinct_names}
-use Rattle.pur_tree.specs.Tokens.{Token, Levels, levels_of, first_level, other_levels, tree_of, IsBalanced, balanced_nothing, balanced_text, balanced_empty, balanced_start, balanced_stop}
+use Rattle.pur_tree.specs.Tokens.{Token, levels_of, first_level, other_levels, IsBalanced, balanced_nothing, balanced_text, balanced_empty, balanced_start, balanced_stop}
 use Rattle.pur_wellform.specs.Closing.{closed}
 use Rattle.pur_wellform.specs.Invariants.{Writes, writes_nothing, writes_text, writes_empty, writes_start, writes_end}
 use Rattle.pur_wellform.specs.Laws.{ClosedIsForest, ClosedKeepsDistinct}

@@ -1,10 +1,5 @@
 -- The open elements of the program, one more and one less.
-use Rattle.std.proofs.Common.{arith, ◌≡◌, List, [], ◌∷◌, ◌++◌, refl, ap, sym, subst, ◌∙◌, Bool, true, false, ◌&&◌, ◌||◌}
-use Rattle.std.specs.List.{list_any}
-use Rattle.pur_names.specs.Elements.{same_element}
-use Rattle.pur_names.specs.declared.elements.Element.{Element}
-use Rattle.pur_names.specs.declared.elements.Element.TheVariants.{A, Pre}
-use Rattle.pur_modules.specs.Contents.{is_excluded, is_excluded_in}
+use Rattle.std.proofs.Common.{◌≡◌, List, [], ◌∷◌, ◌++◌, refl, ap, sym, subst, ◌∙◌}
 use Rattle.pur_settings.specs.Rules.{Rules}
 use Rattle.pur_tree.specs.Nodes.{PlainElem}
 use Rattle.pur_wellform.specs.declared.open_elements.Open.{Open}
@@ -59,26 +54,3 @@ innermost rules all os o h e =
       known = subst (λ es. IsOpen rules es o) (sym n) r.last;
       rest = record { each = r.rest };
     }
-
--- a link excludes links and a `pre` six elements, and nothing else excludes any
-or_false : (b : Bool) → b ≡ (b || false)
-or_false true = refl
-or_false false = refl
-
-excluded_by_one : (o x : Element) → is_excluded o x ≡ ((same_element A o && is_excluded A x) || (same_element Pre o && is_excluded Pre x))
-excluded_by_one A x = or_false (is_excluded A x)
-excluded_by_one Pre x = refl
-excluded_by_one o x = refl
-
-regroup : (a b c d p r : Bool) → (((a && p) || (c && r)) || ((b && p) || (d && r))) ≡ (((a || b) && p) || ((c || d) && r))
-regroup a b c d true true = grind arith
-regroup a b c d true false = grind arith
-regroup a b c d false true = grind arith
-regroup a b c d false false = grind arith
-
-pub excluded_by_two : (es : List Element) (x : Element) → is_excluded_in es x
-    ≡ ((list_any (same_element A) es && is_excluded A x) || (list_any (same_element Pre) es && is_excluded Pre x))
-excluded_by_two [] x = refl
-excluded_by_two (e ∷ es) x =
-    rw (excluded_by_one e x, excluded_by_two es x)
-    (regroup (same_element A e) (list_any (same_element A) es) (same_element Pre e) (list_any (same_element Pre) es) (is_excluded A x) (is_excluded Pre x))

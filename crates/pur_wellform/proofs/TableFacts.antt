@@ -3,11 +3,11 @@ use Rattle.std.proofs.Common.{◌≡◌, List, [], ◌∷◌, refl, ap, subst, �
 use Rattle.std.specs.List.{list_all}
 use Rattle.pur_names.specs.Elements.{same_element}
 use Rattle.pur_names.specs.declared.elements.Element.{Element}
-use Rattle.pur_names.specs.declared.elements.Element.TheVariants.{A, Pre, Li, Dd, Tr, P}
+use Rattle.pur_names.specs.declared.elements.Element.TheVariants.{A, Pre, Form, Label, Button, Li, Dd, Tr, OptionItem, P}
 use Rattle.pur_modules.specs.declared.kinds.Child.{Child}
 use Rattle.pur_modules.specs.declared.kinds.Child.TheVariants.{Text, Elem}
 use Rattle.pur_modules.specs.declared.kinds.Content.{Content}
-use Rattle.pur_modules.specs.declared.kinds.Content.TheVariants.{Inline, Block, Items, Pairs, TableParts, Rows}
+use Rattle.pur_modules.specs.declared.kinds.Content.TheVariants.{Inline, Block, Items, OptionItems, Options, Pairs, TableParts, Rows}
 use Rattle.pur_modules.specs.declared.kinds.Doctype.{Doctype}
 use Rattle.pur_modules.specs.declared.kinds.Doctype.TheVariants.{Strict, Transitional}
 use Rattle.pur_modules.specs.Contents.{content_held, is_excluded, is_empty_element}
@@ -89,7 +89,7 @@ running_is_no_row doctype e h =
 
 -- the wrappers
 abbrev pub wrappers : List Element
-wrappers = Li ∷ Dd ∷ Tr ∷ P ∷ []
+wrappers = Li ∷ Dd ∷ Tr ∷ OptionItem ∷ P ∷ []
 
 -- what is known of an implied wrapper
 pub record Wraps (doctype : Doctype) (content : Content) (child : Child) (wrapper : Element) : Type 0 where
@@ -113,6 +113,8 @@ wrapper_is_fit doctype Items child v h = fit_if doctype Items Li v true refl h
 wrapper_is_fit doctype Pairs child v h = fit_if doctype Pairs Dd v true refl h
 wrapper_is_fit doctype TableParts child v h = fit_if doctype TableParts Tr v (is_cell child) refl h
 wrapper_is_fit doctype Rows child v h = fit_if doctype Rows Tr v (is_cell child) refl h
+wrapper_is_fit doctype Options Text v h = fit_if doctype Options OptionItem v true refl h
+wrapper_is_fit doctype OptionItems Text v h = fit_if doctype OptionItems OptionItem v true refl h
 wrapper_is_fit Strict Block child v h = fit_if Strict Block P v (is_running Strict child) refl h
 wrapper_is_fit doctype content child v h = absurd (cc)
 
@@ -142,6 +144,9 @@ wrapper_wraps doctype content child w h = go (wrapper_for doctype content child)
 none_excludes : (outer : Element) → list_all (λ x. not (is_excluded outer x)) wrappers ≡ true
 none_excludes A = refl
 none_excludes Pre = refl
+none_excludes Form = refl
+none_excludes Label = refl
+none_excludes Button = refl
 none_excludes outer = refl
 
 pub wrapper_is_free : (outer w : Element) → is_among wrappers w ≡ true → is_excluded outer w ≡ false

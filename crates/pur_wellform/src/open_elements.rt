@@ -1,21 +1,19 @@
 // The open elements, and what is known inside of them.
-ghost use Rattle.std.specs.Prelude.{◌≡◌, ◌≤◌, ◌∷◌, [], false, ◌&&◌, ◌||◌};
-ghost use Rattle.std.specs.List.{list_any};
-ghost use Rattle.pur_names.specs.Elements.{same_element};
-ghost use Rattle.pur_names.specs.declared.elements.Element.TheVariants.{A, Pre};
-ghost use Rattle.pur_modules.specs.Contents.{is_empty_element, is_excluded, is_excluded_in};
+ghost use Rattle.std.specs.Prelude.{◌≡◌, ◌≤◌, ◌∷◌, [], false};
+ghost use Rattle.pur_modules.specs.Contents.{is_empty_element, is_excluded_in};
+ghost use Rattle.pur_modules.specs.Excluders.{excluders_of};
 ghost use Rattle.pur_tree.specs.Places.{level_limit};
 ghost use Rattle.pur_wellform.specs.Search.{content_in, level_in};
 ghost use Rattle.pur_wellform.specs.Private.Opens.{names_of, AreOpen, IsOpen};
 
 use pur_attrlist::AttrList;
-use pur_modules::{Content, content_of, excludes};
+use pur_modules::{Content, Excluders, content_of};
 use pur_names::Element;
 use pur_settings::Settings;
 use pur_tree::{is_table, level_rise};
 
 // An open element, and what is known inside of it: what it holds, its level, and which of the elements that exclude others
-// stand round it or are it: a link, a `pre`. No others exclude any. Its attributes are kept if it is formatting, which may
+// stand round it or are it. Its attributes are kept if it is formatting, which may
 // be opened again; otherwise there are none here.
 #[derive(Drop)]
 pub(crate) struct Open {
@@ -23,8 +21,7 @@ pub(crate) struct Open {
     pub(crate) attrs: AttrList,
     pub(crate) content: Content,
     pub(crate) level: usize,
-    pub(crate) in_link: bool,
-    pub(crate) in_pre: bool,
+    pub(crate) excluders: Excluders,
 }
 
 // What may stand inside of the open elements.
@@ -56,30 +53,9 @@ pub(crate) fn is_excluded_at(_settings: &Settings, opened: &[Open], element: Ele
     ensures { result ≡ is_excluded_in (names_of opened.now) element }
 {
     match opened.split_last() {
-        Some((last, _)) => {
-            let link = bars(last.in_link, Element::A, element);
-            let pre = bars(last.in_pre, Element::Pre, element);
-            either(link, pre)
-        }
+        Some((last, _)) => last.excluders.exclude(element),
         None => false,
     }
-}
-
-// Whether an element that is open, if it is, excludes another.
-fn bars(is_open: bool, outer: Element, inner: Element) -> bool
-    ensures { result ≡ (is_open && is_excluded outer inner) }
-{
-    if is_open {
-        excludes(outer, inner)
-    } else {
-        false
-    }
-}
-
-fn either(one: bool, other: bool) -> bool
-    ensures { result ≡ (one || other) }
-{
-    if one { true } else { other }
 }
 
 // What is known of an element that is opened inside of the open ones.
@@ -93,42 +69,23 @@ pub(crate) fn opening(settings: &Settings, opened: &[Open], name: Element, attrs
 {
     let content = content_of(settings.doctype(), name, content_at(settings, opened));
     let level = level_inside(settings, opened, name);
-    let in_link = is_link_open(settings, opened, name);
-    let in_pre = is_pre_open(settings, opened, name);
+    let excluders = excluders_inside(settings, opened, name);
     Open {
         name,
         attrs,
         content,
         level,
-        in_link,
-        in_pre,
+        excluders,
     }
 }
 
-// Whether a link is open, where an element is opened inside of the open ones.
-fn is_link_open(_settings: &Settings, opened: &[Open], name: Element) -> bool
+// Which elements that exclude others are open, where an element is opened inside of the open ones.
+fn excluders_inside(_settings: &Settings, opened: &[Open], name: Element) -> Excluders
     requires { AreOpen _settings.now opened.now }
-    ensures { result ≡ list_any (same_element A) (name ∷ names_of opened.now) }
+    ensures { result ≡ excluders_of (name ∷ names_of opened.now) }
 {
-    if Element::A.is_same(name) {
-        return true;
-    }
     match opened.split_last() {
-        Some((last, _)) => last.in_link,
-        None => false,
-    }
-}
-
-// The same of a `pre`.
-fn is_pre_open(_settings: &Settings, opened: &[Open], name: Element) -> bool
-    requires { AreOpen _settings.now opened.now }
-    ensures { result ≡ list_any (same_element Pre) (name ∷ names_of opened.now) }
-{
-    if Element::Pre.is_same(name) {
-        return true;
-    }
-    match opened.split_last() {
-        Some((last, _)) => last.in_pre,
-        None => false,
+        Some((last, _)) => last.excluders.inside(name),
+        None => Excluders::none().inside(name),
     }
 }

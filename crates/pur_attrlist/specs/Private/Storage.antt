@@ -3,14 +3,14 @@ use Rattle.std.specs.Prelude.{List, [], map, Option, Some, None}
 use Rattle.std.specs.declared.alloc.Global.{Global}
 use Rattle.std.specs.declared.boxed.Box.{Box}
 use Rattle.pur_attrlist.specs.Attributes.{Attribute}
-use Rattle.pur_attrlist.specs.Pairs.{attribute_of}
+use Rattle.pur_attrlist.specs.Private.Stored.{attribute_in}
 use Rattle.pur_attrlist.specs.declared.pairs_in_order.PairsInOrder.{PairsInOrder}
 use Rattle.pur_attrlist.specs.declared.stored_pairs.StoredPairs.{StoredPairs}
 use Rattle.pur_attrlist.specs.declared.pairs_in_order.PairsInOrder.TheVariants.{Plain, Indexed}
 
 -- all attributes, in order
 abbrev pub attributes_of : PairsInOrder → List Attribute
-attributes_of (Plain plain) = map attribute_of plain.items
+attributes_of (Plain plain) = map attribute_in plain.items
 attributes_of (Indexed indexed) = indexed
 
 -- those behind a pointer, where there is one

@@ -8,7 +8,7 @@ use Rattle.pur_commands.specs.Statuses.{IsSettled}
 use Rattle.pur_commands.specs.declared.status.Status.{Status}
 use Rattle.pur_cli.specs.Answers.{Answer, filtered, IsStatus, text_of, answer_to}
 use Rattle.pur_cli.specs.Samples.{sample_line}
-use Rattle.pur_cli.specs.Private.Purifications.{IsPurification}
+use Rattle.pur_engine.specs.Purifications.{IsPurification}
 
 -- the text of an answer that filters has all that is promised of a purification
 abbrev pub IsPurified : Answer → List ℕ → Type 0

@@ -4,10 +4,10 @@ use Rattle.std.specs.BTreeSet.{BTreeSet}
 use Rattle.std.specs.List.{list_any}
 use Rattle.std.specs.declared.alloc.Global.{Global}
 use Rattle.pur_names.specs.declared.elements.Element.{Element}
-use Rattle.pur_names.specs.declared.elements.Element.TheVariants.{A, Pre}
-use Rattle.pur_names.specs.Elements.{same_element}
 use Rattle.pur_modules.specs.declared.kinds.Content.{Content}
-use Rattle.pur_modules.specs.Contents.{content_held, is_excluded}
+use Rattle.pur_modules.specs.Contents.{content_held}
+use Rattle.pur_modules.specs.Excluders.{is_excluded_by, with_excluder}
+use Rattle.pur_modules.specs.declared.exclusions.Excluders.{Excluders}
 use Rattle.pur_settings.specs.Rules.{Rules, permits_element}
 use Rattle.pur_text.specs.Texts.{text_of}
 use Rattle.pur_attrlist.specs.Attributes.{is_same_text}
@@ -16,27 +16,23 @@ use Rattle.pur_uripolicy.specs.HostRules.{PlainHostRule}
 use Rattle.pur_validity.specs.Attributes.{has_valid_values, has_required, has_one_language, has_prefix}
 use Rattle.pur_validity.specs.Deciding.{are_word}
 
--- whether an element stands in a link or a `pre` that excludes it; no others exclude any
-abbrev pub is_excluded_by : Bool → Bool → Element → Bool
-is_excluded_by in_link in_pre e = (in_link && is_excluded A e) || (in_pre && is_excluded Pre e)
-
 -- whether an element may stand here, with these children
-unfoldable pub is_right_here : Rules → Content → Bool → Bool → Element → Nodes → Bool
-is_right_here rules content in_link in_pre e kids =
-    are_word rules.doctype (content_held rules.doctype e content) kids && (permits_element rules e && not (is_excluded_by in_link in_pre e))
+unfoldable pub is_right_here : Rules → Content → Excluders → Element → Nodes → Bool
+is_right_here rules content round e kids =
+    are_word rules.doctype (content_held rules.doctype e content) kids && (permits_element rules e && not (is_excluded_by round e))
 
 -- whether its attributes are right, ids aside
 unfoldable pub has_right_attributes : Rules → PlainHostRule → PlainElem → Bool
 has_right_attributes rules rule e = has_valid_values rules rule e && (has_required e && has_one_language e)
 
--- whether nodes are right in some content, in a link or a `pre`
-abbrev pub right_within : Rules → PlainHostRule → Content → Bool → Bool → Nodes → Bool
-right_within rules rule content in_link in_pre no_nodes = true
-right_within rules rule content in_link in_pre (text_first s rest) = right_within rules rule content in_link in_pre rest
-right_within rules rule content in_link in_pre (elem_first e kids rest) =
-    (is_right_here rules content in_link in_pre e.name kids && has_right_attributes rules rule e)
-    && (right_within rules rule (content_held rules.doctype e.name content) (same_element A e.name || in_link) (same_element Pre e.name || in_pre) kids
-    && right_within rules rule content in_link in_pre rest)
+-- whether nodes are right in some content, with what stands round them
+abbrev pub right_within : Rules → PlainHostRule → Content → Excluders → Nodes → Bool
+right_within rules rule content round no_nodes = true
+right_within rules rule content round (text_first s rest) = right_within rules rule content round rest
+right_within rules rule content round (elem_first e kids rest) =
+    (is_right_here rules content round e.name kids && has_right_attributes rules rule e)
+    && (right_within rules rule (content_held rules.doctype e.name content) (with_excluder e.name round) kids
+    && right_within rules rule content round rest)
 
 -- which texts were seen: those of a set
 abbrev pub Seen : Type 0

@@ -1,10 +1,8 @@
 -- The open elements of the program, which stand outermost first, as plain ones, which stand innermost first.
 use Rattle.std.specs.Prelude.{◌≤◌, ◌≡◌, Bool, true, false, List, [], ◌∷◌, Option, Some, None}
-use Rattle.std.specs.List.{list_any}
-use Rattle.pur_names.specs.Elements.{same_element}
 use Rattle.pur_names.specs.declared.elements.Element.{Element}
-use Rattle.pur_names.specs.declared.elements.Element.TheVariants.{A, Pre}
 use Rattle.pur_modules.specs.Contents.{is_empty_element}
+use Rattle.pur_modules.specs.Excluders.{excluders_of}
 use Rattle.pur_settings.specs.Rules.{Rules}
 use Rattle.pur_tree.specs.Nodes.{PlainElem, plain_elem}
 use Rattle.pur_tree.specs.Places.{level_limit}
@@ -37,8 +35,7 @@ pub record IsOpen (rules : Rules) (inner : List Element) (o : Open) : Type 0 whe
   pub level : o.level ≡ level_in inner
   pub low : level_in inner ≤ level_limit
   pub full : is_empty_element o.name ≡ false
-  pub link : o.in_link ≡ list_any (same_element A) inner
-  pub pre : o.in_pre ≡ list_any (same_element Pre) inner
+  pub excluders : o.excluders ≡ excluders_of inner
 
 abbrev pub AreOpenUnder : Rules → List PlainElem → List Open → Type 0
 AreOpenUnder rules outer [] = Unit {0}

@@ -15,3 +15,11 @@ returns-in_ok-put_new-in-Img c =
     let put = rw (chars_ascii (codes "alt") refl) at c.in_ok-put_new-in-Img.ensures in
     let named = c.source_name.ensures ∙ ap (λ o. option_map_or (λ uri. last_segment uri.path) o []) c.requires in
     rw c.in-Img.is (put ∙ ap (with_new c.args.attrs.now (codes "alt")) named)
+
+pub returns-in_ok-put_new-in-Form : goal.returns-in_ok-put_new-in-Form
+returns-in_ok-put_new-in-Form c =
+    rw c.in-Form.is (rw (chars_ascii (codes "action") refl, chars_ascii [] refl) at c.in_ok-put_new-in-Form.ensures)
+
+pub returns-in_ok-put_new-in-Optgroup : goal.returns-in_ok-put_new-in-Optgroup
+returns-in_ok-put_new-in-Optgroup c =
+    rw c.in-Optgroup.is (rw (chars_ascii (codes "label") refl, chars_ascii [] refl) at c.in_ok-put_new-in-Optgroup.ensures)

@@ -4,8 +4,8 @@ use Rattle.pur_engine.specs.Purified.{injected_tree, purified_nodes}
 use Rattle.pur_engine.proofs.fragments.fragments_are_good.Goals as goal
 
 pub returns : goal.returns
-returns c rules rule text kind begins all =
-    let ready = c.injected_is_ready.ensures rules rule text kind all in
+returns c rules rule text kind begins no_forms all =
+    let ready = c.injected_is_ready.ensures rules rule text kind no_forms all in
     let nodes = injected_tree rules rule text in
     let words = c.keeps_words.ensures rules.doctype rules.parent rules rule nodes in
     let keeps = c.keeps_forests.ensures rules rule nodes in

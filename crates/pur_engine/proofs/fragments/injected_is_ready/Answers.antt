@@ -4,8 +4,8 @@ use Rattle.pur_engine.specs.Purified.{nested_tree}
 use Rattle.pur_engine.proofs.fragments.injected_is_ready.Goals as goal
 
 pub returns : goal.returns
-returns c rules rule text kind all =
-    let ready = c.nested_is_ready.ensures rules rule text kind all in
+returns c rules rule text kind no_forms all =
+    let ready = c.nested_is_ready.ensures rules rule text kind no_forms all in
     let nodes = nested_tree rules rule text in
     let links = with_links rules rule nodes in
     let first = c.links_keep.ensures rules rule nodes in

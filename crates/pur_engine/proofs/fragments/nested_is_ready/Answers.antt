@@ -12,7 +12,7 @@ use Rattle.pur_engine.proofs.FragmentLemmas.{takes_any}
 use Rattle.pur_engine.proofs.fragments.nested_is_ready.Goals as goal
 
 pub returns : goal.returns
-returns c rules rule text kind all =
+returns c rules rule text kind no_forms all =
     let read = tokens_of text in
     let kept = kept_tokens rules rule text in
     let tree = closed_tree rules rule text in
@@ -25,7 +25,7 @@ returns c rules rule text kind all =
     let distinct : list_all shows_distinct kept ≡ true = c.removal_keeps_distinct.ensures rules rule read (c.tokens_are_distinct.ensures text) in
     record {
       word = c.gives_a_word.ensures rules.doctype p rules.parent tree closed.letters (takes_any rules.parent kind);
-      words = c.gives_words.ensures rules.doctype p rules.parent tree closed.letters;
+      words = c.gives_all_words.ensures rules rules.parent tree no_forms closed.letters closed.permitted;
       free = c.keeps_free.ensures p [] tree closed.free;
       permitted = c.keeps_permitted.ensures (permits_element rules) tree closed.permitted;
       forest = c.keeps_forests.ensures p tree before.forest;

@@ -6,10 +6,10 @@ use Rattle.pur_engine.proofs.laws.purified_adds_no_text.Goals as goal
 
 pub returns : goal.returns
 unfolding purified
-returns c rules kind begins rule input =
+returns c rules kind begins no_forms rule input =
     let text = cleaned input in
     let nodes = purified_nodes rules rule text in
-    let good = c.fragments_are_good.ensures rules rule text kind begins (c.cleaned_is_allowed.ensures input) in
+    let good = c.fragments_are_good.ensures rules rule text kind begins no_forms (c.cleaned_is_allowed.ensures input) in
     record {
       nodes = nodes;
       spelled = written nodes good.spells refl;

@@ -11,16 +11,16 @@ use Rattle.pur_engine.proofs.laws.purified_once.Goals as goal
 
 pub returns : goal.returns
 unfolding purified
-returns c rules kind begins rule input =
+returns c rules kind begins no_forms rule input =
     let text = cleaned input in
     let all = c.cleaned_is_allowed.ensures input in
-    let good = c.fragments_are_good.ensures rules rule text kind begins all in
+    let good = c.fragments_are_good.ensures rules rule text kind begins no_forms all in
     let nodes = purified_nodes rules rule text in
     let out = spelling_of nodes in
     let clean : cleaned (encode_utf8_all out) ≡ out = c.spelled_is_cleaned.ensures nodes out good.spells in
     let reaches : nested_tree rules rule out ≡ nodes = c.good_reaches_injectors.ensures rules rule nodes out good.spells good.valid in
     let once : injected rules rule nodes ≡ nodes =
-    c.injects_once.ensures rules rule (nested_tree rules rule text) nodes (c.nested_is_ready.ensures rules rule text kind all).joined
+    c.injects_once.ensures rules rule (nested_tree rules rule text) nodes (c.nested_is_ready.ensures rules rule text kind no_forms all).joined
     (c.keeps_nodes.ensures rules rule (injected_tree rules rule text)) (sound good.spells) in
     let stays : purified_nodes rules rule out ≡ nodes =
     ap (λ n. with_valid_attributes rules rule (injected rules rule n)) reaches

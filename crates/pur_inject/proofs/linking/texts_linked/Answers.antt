@@ -9,8 +9,8 @@ use Rattle.pur_inject.specs.Private.Linking.{texts_linked}
 use Rattle.pur_inject.proofs.GrowingLemmas.{grown-ended}
 use Rattle.pur_inject.proofs.linking.texts_linked.Goals as goal
 
-pub loop-node-preserved-in-Continue-1 : goal.loop-node-preserved-in-Continue-1
-loop-node-preserved-in-Continue-1 g c =
+pub loop-node-preserved-in-Continue-branch-2 : goal.loop-node-preserved-in-Continue-branch-2
+loop-node-preserved-in-Continue-branch-2 g c =
     let made = texts_linked (may_be_linked c.args.settings.now c.args.gate.now) in
     let done = nodes_of c.loop-node.out.nodes.items in
     let rest = nodes_of (into_iter_items c.next.new.self) in

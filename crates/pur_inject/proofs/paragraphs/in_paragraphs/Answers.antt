@@ -16,17 +16,17 @@ use Rattle.pur_inject.proofs.paragraphs.in_paragraphs.Goals as goal
 pub loop-node-init : goal.loop-node-init
 loop-node-init c =
     let d = c.args.doctype in
-    let done = c.new.result in
-    let piece = c.new-2.result in
+    let done = c.in_ok-done.done in
+    let piece = c.new.result in
     let signs = signs_of (nodes_of c.args.nodes.items) in
-    ap (λ xs. ahead d done piece (with_blank_lines (letters (chars (string_bytes c.new-3.result)) ++ signs_of (nodes_of xs)))) c.into_iter-node-iterator.ensures.into_iter_gives.0
-    ∙ ap (λ b. ahead d done piece (with_blank_lines (letters (chars b) ++ signs))) c.new-3.ensures.bytes
+    ap (λ xs. ahead d done piece (with_blank_lines (letters (chars (string_bytes c.new-2.result)) ++ signs_of (nodes_of xs)))) c.into_iter-node-iterator.ensures.into_iter_gives.0
+    ∙ ap (λ b. ahead d done piece (with_blank_lines (letters (chars b) ++ signs))) c.new-2.ensures.bytes
     ∙ ap (λ s. ahead d done piece (with_blank_lines (letters s ++ signs))) chars-nil
-    ∙ starts d done piece (with_blank_lines signs) (λ after. grown-new piece after c.new-2.ensures.nodes c.new-2.ensures.text)
-    ∙ grown-new done (nodes_from (with_runs (stands_in_paragraphs d) wrapped_run (with_blank_lines signs))) c.new.ensures.nodes c.new.ensures.text
+    ∙ starts d done piece (with_blank_lines signs) (λ after. grown-new piece after c.new.ensures.nodes c.new.ensures.text)
+    ∙ grown-new done (nodes_from (with_runs (stands_in_paragraphs d) wrapped_run (with_blank_lines signs))) c.in_ok-done.ensures.nodes c.in_ok-done.ensures.text
 
-pub loop-node-preserved-in-Continue-1 : goal.loop-node-preserved-in-Continue-1
-loop-node-preserved-in-Continue-1 c =
+pub loop-node-preserved-in-Continue-branch-2 : goal.loop-node-preserved-in-Continue-branch-2
+loop-node-preserved-in-Continue-branch-2 c =
     let d = c.args.doctype in
     let p = c.loop-node.paragraphs in
     let rest = nodes_of (into_iter_items c.next.new.self) in

@@ -7,5 +7,5 @@ use Rattle.pur_names.proofs.elements.spelled.Goals as goal
 
 pub returns-else-eq-clause-none : goal.returns-else-eq-clause-none
 returns-else-eq-clause-none c =
-    absent element_name element_place placed_elements A element-placed c.args.name.now c.place.result
+    absent element_name element_place 176 placed_elements A element-placed c.args.name.now c.place.result
     c.name.result.now c.as_bytes.result.now c.eq.result c.place.ensures.value c.name.ensures c.as_bytes.ensures.value c.eq.ensures c.if-eq.false

@@ -7,5 +7,5 @@ use Rattle.pur_names.proofs.properties.spelled.Goals as goal
 
 pub returns-else-eq-clause-none : goal.returns-else-eq-clause-none
 returns-else-eq-clause-none c =
-    absent prop_name prop_place placed_props BackgroundAttachment prop-placed c.args.name.now c.place.result
+    absent prop_name prop_place 128 placed_props BackgroundAttachment prop-placed c.args.name.now c.place.result
     c.name.result.now c.as_bytes.result.now c.eq.result c.place.ensures.value c.name.ensures c.as_bytes.ensures.value c.eq.ensures c.if-eq.false

@@ -6,4 +6,4 @@ use Rattle.pur_reader.proofs.validity.+are_right.Given as goal
 
 abbrev pub invariant-are_right-loop-node : goal.invariant-are_right-loop-node
 invariant-are_right-loop-node g l =
-    right_within l.settings l.gate l.content l.in_link l.in_pre (nodes_of (drop l.node-index l.nodes)) ≡ right_within l.settings l.gate l.content l.in_link l.in_pre (nodes_of l.nodes)
+    right_within l.settings l.gate l.content l.round (nodes_of (drop l.node-index l.nodes)) ≡ right_within l.settings l.gate l.content l.round (nodes_of l.nodes)

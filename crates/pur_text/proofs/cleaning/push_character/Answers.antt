@@ -4,7 +4,7 @@ use Rattle.std.proofs.lemmas.Str.{IsUtf8-string_bytes}
 use Rattle.pur_laws.proofs.Texts.{chars_push}
 use Rattle.pur_text.proofs.cleaning.push_character.Goals as goal
 
-pub returns : goal.returns
-returns c =
+pub returns-clause-text : goal.returns-clause-text
+returns-clause-text c =
     ap chars c.in_ok-push.ensures.bytes
     ∙ chars_push (string_bytes c.args.clean.now) c.args.c (IsUtf8-string_bytes c.args.clean.now) c.ranges.c.0

@@ -15,4 +15,4 @@ returns-clause-step c =
     (character_list c.replacement.result) c.utf8.text
     (sym c.chars-behind.ensures.rest ∙ c.in-Some.ensures.steps.0 ∙ ap (λ t. encode_utf8 first ++ t) same)
     (c.replacement.ensures ∙ ap (λ t. filter is_allowed (line_feed_for first (chars t))) (c.as_str.ensures ∙ same))
-    c.in_ok-push_kept.ensures
+    c.in_ok-push_kept.ensures.text

@@ -19,12 +19,13 @@ use Rattle.pur_uri.specs.Uris.{fits, has_reading, reading_of, uri_of_parts, uri_
 use Rattle.pur_uripolicy.specs.HostRules.{is_under, admits_host, admits}
 use Rattle.pur_uripolicy.specs.Admissible.{is_fit, uri_under}
 use Rattle.pur_values.specs.Kinds.{kind_of, is_declared}
+use Rattle.pur_values.specs.Numbers.{numeral}
 use Rattle.pur_values.specs.Tokens.{distinct}
 use Rattle.pur_values.specs.Values.{value_of}
 use Rattle.pur_validity.proofs.laws.attribute_examples.Goals as goal
 
 pub returns : goal.returns
-unfolding lib.Utf8.encode digits trimmed attr_named attributes_of kind_of is_declared distinct value_of group_count is_host prop_named scheme_named hash_read color_named parts_read rgb_read color_read pieces_from stays_whole has_escape_or_comment declaration_of word_read form_read value_read keyword_read property_read declaration_kept firsts last_value each_once style_written style_read host_len host_of port_value is_port port_of is_authority stays_in_path stays_in_query normalised tidied has_scheme scheme_part behind_scheme has_authority authority_part behind_authority query_part behind_query fragment_part parts_of fits has_reading reading_of uri_of_parts uri_of uri_text is_fit is_under admits_host admits uri_under
+unfolding lib.Utf8.encode digits trimmed attr_named attributes_of kind_of is_declared distinct value_of group_count is_host prop_named scheme_named hash_read color_named parts_read rgb_read color_read pieces_from stays_whole has_escape_or_comment declaration_of word_read form_read value_read keyword_read property_read declaration_kept firsts last_value each_once style_written style_read host_len host_of port_value is_port port_of is_authority stays_in_path stays_in_query normalised tidied has_scheme scheme_part behind_scheme has_authority authority_part behind_authority query_part behind_query fragment_part parts_of fits has_reading reading_of uri_of_parts uri_of uri_text is_fit is_under admits_host admits uri_under numeral
 returns c = record {
   declared = record { valid = refl; other = refl };
   listed = record { valid = refl; other = refl };
@@ -38,4 +39,6 @@ returns c = record {
   pictures = record { valid = refl; other = refl };
   sources = record { valid = refl; other = refl };
   styles = record { valid = refl; other = refl };
+  actions = record { valid = refl; other = refl };
+  fields = record { valid = refl; other = refl };
 }

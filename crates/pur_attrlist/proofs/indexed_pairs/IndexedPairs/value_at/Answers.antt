@@ -1,12 +1,11 @@
 use Rattle.std.proofs.Common.{◌<◌, length, map, Some, sym, ap, ◌∙◌}
-use Rattle.pur_attrlist.specs.Texts.{text_of}
-use Rattle.pur_attrlist.specs.Pairs.{attribute_of}
-use Rattle.pur_attrlist.specs.declared.stored_pair.Pair.{Pair}
+use Rattle.pur_attrlist.specs.Private.Stored.{text_in, attribute_in}
+use Rattle.pur_attrlist.specs.declared.stored_pair.StoredPair.{StoredPair}
 use Rattle.pur_attrlist.proofs.StorageLaws.{pairs-told}
 use Rattle.pur_attrlist.proofs.indexed_pairs.IndexedPairs.value_at.Goals as goal
 
 pub returns : goal.returns
 returns c =
-    let within : c.args.at < length (map attribute_of c.self.inside.pairs.items) = rw (← c.self.view_is) at c.requires in
-    rw (← c.self.view_is, c.as_str.ensures.value)
-    ((pairs-told c.self.inside.pairs.items c.args.at c.index.result.now within).1 ∙ ap (λ (pair : Pair). Some (text_of pair.value)) (sym c.index.ensures))
+    let within : c.args.at < length (map attribute_in c.self.inside.pairs.items) = rw (← c.self.view_is) at c.requires in
+    rw (← c.self.view_is, c.as_str.ensures)
+    ((pairs-told c.self.inside.pairs.items c.args.at c.index.result.now within).1 ∙ ap (λ (pair : StoredPair). Some (text_in pair.value)) (sym c.index.ensures))

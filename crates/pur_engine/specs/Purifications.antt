@@ -1,4 +1,4 @@
--- What the engine promises of a purification, in one word: `run` says each of these.
+-- What is promised of a purification, in one word.
 use Rattle.std.specs.Prelude.{◌≡◌, ℕ, List, IsTrue}
 use Rattle.pur_settings.specs.Rules.{Rules}
 use Rattle.pur_uripolicy.specs.HostRules.{PlainHostRule}
