@@ -25,7 +25,7 @@ use Rattle.pur_uri.specs.Uris.{PlainUri, uri_of, uri_text}
 use Rattle.pur_uripolicy.specs.HostRules.{PlainHostRule}
 use Rattle.pur_cssprops.specs.Forms.{readings, spaced, words_read, are_each_once, ordered_read, embedded, image_read, form_read, value_read}
 use Rattle.pur_cssprops.specs.Keywords.{keyword_read}
-use Rattle.pur_cssprops.specs.Laws.{StyleAllowed}
+use Rattle.pur_cssprops.specs.Laws.{StyleAllowed, is_style_character}
 use Rattle.pur_cssprops.specs.Properties.{form_of}
 use Rattle.pur_cssprops.specs.Styles.{Kept, declaration_kept, each_once, style_read}
 use Rattle.pur_cssprops.specs.declared.forms.ValueForm.{ValueForm}
@@ -46,7 +46,7 @@ use Rattle.pur_cssprops.proofs.WordLaws.{AtomLaws, keyword-out, or_either, word-
 
 -- a character of ASCII that is seen, or a space
 abbrev is_printable : ℕ → Bool
-is_printable c = is_between 0x20 0x7E c
+is_printable c = is_style_character c
 
 abbrev are_printable : List ℕ → Bool
 are_printable text = list_all is_printable text
@@ -246,9 +246,11 @@ module _ (laws : AtomLaws) where
       go (Some kept) is later =
           (value_out rules rule (form_of kept.0) pair.1 kept.1 (kept-of rules rule pair kept is).1, later)
 
-    pub styles-allowed : StyleAllowed
+    pub styles-printable : (rules : Rules) (rule : PlainHostRule) (raw out : List ℕ) → style_read rules rule raw ≡ Some out → list_all is_style_character out ≡ true
     unfolding style_read
-    styles-allowed rules rule raw out e =
+    styles-printable rules rule raw out e =
         let all = filter_map (declaration_kept rules rule) (declarations_of raw) in
-        all-weaker is_printable is_allowed printable_allowed out
-        (ap are_printable (sym (written-is (each_once all) out e)) ∙ style_printable (each_once all) (once-every IsPrintable all (kept_out rules rule (declarations_of raw))))
+        ap are_printable (sym (written-is (each_once all) out e)) ∙ style_printable (each_once all) (once-every IsPrintable all (kept_out rules rule (declarations_of raw)))
+
+    pub styles-allowed : StyleAllowed
+    styles-allowed rules rule raw out e = all-weaker is_printable is_allowed printable_allowed out (styles-printable rules rule raw out e)

@@ -17,7 +17,7 @@ use Rattle.pur_csstok.specs.Cuts.{nothing_open, is_cut, open_after, heeds_parent
 use Rattle.pur_csstok.specs.Declarations.{Pair, has_escape_or_comment, is_colon, clean_pair, declaration_of, declarations_of, style_text, AreClean}
 use Rattle.pur_uripolicy.specs.HostRules.{PlainHostRule}
 use Rattle.pur_cssprops.specs.Forms.{value_read}
-use Rattle.pur_cssprops.specs.Laws.{ReadAsItself, StyleReadAsItself}
+use Rattle.pur_cssprops.specs.Laws.{ReadAsItself, StyleReadAsItself, IsCleanStyle, is_style_character}
 use Rattle.pur_cssprops.specs.Properties.{form_of}
 use Rattle.pur_cssprops.specs.Styles.{Kept, property_read, declaration_kept, each_once, style_written, style_read}
 use Rattle.pur_cssprops.proofs.InnerLaws.{IsInherited, IsPlain, or_parts, all-inherited, plain-inherited, value-inner}
@@ -140,13 +140,14 @@ module _ (rules : Rules) (rule : PlainHostRule) where
 
   -- ---- read again
 
-  module _ (atoms : AtomLaws) (clean : CleanLaws) (itself : ReadAsItself) (declared : (pairs : List Pair) → AreClean pairs → declarations_of (style_text pairs) ≡ pairs) where
+  module _ (atoms : AtomLaws) (clean : CleanLaws) where
     all_clean : (all : List Kept) → Every IsRead all → AreClean (map named_chars all)
     all_clean [] every = tt
     all_clean (kept ∷ all) every =
         let is = every.0 in
         (record { property = names_clean kept.0; value = value-clean atoms clean rules rule (form_of kept.0) is.raw kept.1 is.plain is.read.1 }, all_clean all every.1)
 
+  module _ (atoms : AtomLaws) (clean : CleanLaws) (itself : ReadAsItself) (declared : (pairs : List Pair) → AreClean pairs → declarations_of (style_text pairs) ≡ pairs) where
     again : (kept : Kept) → IsRead kept → declaration_kept rules rule (named_chars kept) ≡ Some kept
     unfolding property_read
     again kept is =
@@ -169,11 +170,24 @@ module _ (rules : Rules) (rule : PlainHostRule) where
         let all = filter_map (declaration_kept rules rule) (declarations_of raw) in
         let once = each_once all in
         let every = kept_read raw characters in
-        let cut : declarations_of out ≡ map named_chars once = ap declarations_of (sym (written-is once out e)) ∙ declared (map named_chars once) (all_clean once every) in
+        let cut : declarations_of out ≡ map named_chars once = ap declarations_of (sym (written-is once out e)) ∙ declared (map named_chars once) (all_clean atoms clean once every) in
         ap (λ pairs. style_written (each_once (filter_map (declaration_kept rules rule) pairs))) cut
         ∙ ap (λ kept. style_written (each_once kept)) (all_again once every)
         ∙ ap style_written (once-again once (once-distinct all))
         ∙ e
+
+-- what is kept is written as clean declarations
+pub style-clean : AtomLaws → CleanLaws → (rules : Rules) (rule : PlainHostRule) (raw out : List ℕ) → IsUtf8 raw → style_read rules rule (chars raw) ≡ Some out
+    → list_all is_style_character out ≡ true → IsCleanStyle out
+unfolding style_read
+style-clean atoms clean rules rule raw out valid e characters =
+    let once = each_once (filter_map (declaration_kept rules rule) (declarations_of (chars raw))) in
+    record {
+      pairs = map named_chars once;
+      clean = all_clean rules rule atoms clean once (kept_read rules rule (chars raw) (all_scalars (chars raw) (scalars-chars raw valid)));
+      written = written-is once out e;
+      characters = characters;
+    }
 
 pub styles-stay : AtomLaws → CleanLaws → ReadAsItself → ((pairs : List Pair) → AreClean pairs → declarations_of (style_text pairs) ≡ pairs) → StyleReadAsItself
 styles-stay atoms clean itself declared rules rule raw out valid e =

@@ -1,8 +1,9 @@
 -- What holds of all forms of values, and of styles.
-use Rattle.std.specs.Prelude.{◌≡◌, ℕ, List, Some, IsTrue, IsUtf8}
+use Rattle.std.specs.Prelude.{◌≡◌, ℕ, ◌==◌, ◌&&◌, ◌||◌, not, Bool, List, Some, IsTrue, IsUtf8}
 use Rattle.std.specs.List.{list_all}
 use Rattle.std.specs.Str.{chars}
-use Rattle.pur_text.specs.Characters.{is_allowed}
+use Rattle.pur_text.specs.Characters.{is_allowed, is_between}
+use Rattle.pur_csstok.specs.Declarations.{Pair, AreClean, style_text}
 use Rattle.pur_settings.specs.Rules.{Rules}
 use Rattle.pur_uripolicy.specs.HostRules.{PlainHostRule}
 use Rattle.pur_cssprops.specs.Forms.{word_read, value_read}
@@ -31,3 +32,20 @@ abbrev pub StyleAllowed : Type 0
 StyleAllowed =
     (rules : Rules) (rule : PlainHostRule) (raw output : List ℕ) → style_read rules rule raw ≡ Some output
     → IsTrue (list_all is_allowed output)
+
+-- what a style is written with: printable ASCII, but for `<`, `>` and braces
+abbrev pub is_style_character : ℕ → Bool
+is_style_character c = is_between 0x20 0x7E c && not (c == 0x3C || c == 0x3E || c == 0x7B || c == 0x7D)
+
+-- a style of clean declarations, written with such characters
+pub record IsCleanStyle (style : List ℕ) : Type 0 where
+  pub pairs : List Pair
+  pub clean : AreClean pairs
+  pub written : style_text pairs ≡ style
+  pub characters : IsTrue (list_all is_style_character style)
+
+-- what the characters of a text are read as, as a style, is one
+abbrev pub StyleClean : Type 0
+StyleClean =
+    (rules : Rules) (rule : PlainHostRule) (raw output : List ℕ) → IsUtf8 raw
+    → style_read rules rule (chars raw) ≡ Some output → IsCleanStyle output

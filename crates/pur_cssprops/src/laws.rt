@@ -1,6 +1,6 @@
 //! What holds of all forms. Each law is the contract of a call that does nothing.
 ghost use Rattle.pur_cssprops.specs.Forms.{width, style, color, underline, overline, line_through};
-ghost use Rattle.pur_cssprops.specs.Laws.{NeverBoth, ReadAsItself, StyleAllowed, StyleReadAsItself};
+ghost use Rattle.pur_cssprops.specs.Laws.{NeverBoth, ReadAsItself, StyleAllowed, StyleClean, StyleReadAsItself};
 
 use pur_csstok::{
     atom_is_word, atoms_are_clean, color_is_read, colors_are_digits, declarations_are_read,
@@ -69,4 +69,23 @@ pub fn styles_are_allowed()
     atom_is_word();
     words_are_read();
     text_is_canonical();
+}
+
+/// What a text is read as, as a style, is clean declarations, written without `<`, `>` and braces. So a style ends nothing
+/// that it stands in: no element, no block and no comment.
+pub fn styles_are_clean()
+    ensures { StyleClean }
+{
+    number_is_read();
+    length_is_read();
+    color_is_read();
+    colors_are_digits();
+    values_are_atoms();
+    atom_is_word();
+    words_are_read();
+    atoms_are_clean();
+    families_are_clean();
+    urls_are_clean();
+    text_is_canonical();
+    no_comment_appears();
 }

@@ -16,8 +16,8 @@ mod words;
 pub use forms::{ValueForm, WordForm};
 pub use keywords::Keywords;
 pub use laws::{
-    canonical_is_read_as_itself, styles_are_allowed, styles_are_read_as_themselves,
-    words_have_one_form,
+    canonical_is_read_as_itself, styles_are_allowed, styles_are_clean,
+    styles_are_read_as_themselves, words_have_one_form,
 };
 pub use properties::form_of;
 pub use reading::read_value;

@@ -7,5 +7,6 @@ pub mod Families
 pub mod Lengths
 pub mod Names
 pub mod Numbers
+pub mod Open
 pub mod Urls
 pub mod Written

@@ -36,22 +36,26 @@ impl Separator {
     }
 }
 
-/// What is open at a place of a text: a quote, and so many parentheses.
+/// What is open at a place of a text: a quote, and so many parentheses (CSS 2.1, sections 4.1.6 and 4.1.7).
 #[derive(Clone, Copy)]
-struct Nesting {
-    quote: Option<char>,
-    depth: usize,
+pub struct Nesting {
+    /// The quote that is open, `"` or `'`.
+    pub quote: Option<char>,
+    /// How many parentheses are open.
+    pub depth: usize,
 }
 
 impl Nesting {
-    fn is_outside(&self) -> bool
+    /// Whether nothing is open.
+    pub fn is_outside(&self) -> bool
         ensures { result ≡ is_outside self.now }
     {
         self.quote.is_none() && self.depth == 0
     }
 
-    /// What is open behind one more character.
-    fn after(self, c: char, heeds_parentheses: bool) -> Nesting
+    /// What is open behind one more character. Parentheses count outside quotes, where they are heeded; a `)` without a `(`
+    /// closes nothing.
+    pub fn after(self, c: char, heeds_parentheses: bool) -> Nesting
         requires { self.depth < 2 ^ 64 - 1 }
         ensures nesting { result ≡ open_after heeds_parentheses self c }
         ensures depth { result.depth ≤ self.depth + 1 }

@@ -7,6 +7,8 @@ ghost use Rattle.pur_csstok.specs.Declarations.{IsCleanValue, has_escape_or_comm
 ghost use Rattle.pur_csstok.specs.Families.{families_read};
 ghost use Rattle.pur_csstok.specs.Lengths.{length_read};
 ghost use Rattle.pur_csstok.specs.Numbers.{number_read};
+ghost use Rattle.pur_csstok.specs.Cuts.{nothing_open};
+ghost use Rattle.pur_csstok.specs.Open.{open_behind};
 ghost use Rattle.pur_csstok.specs.Urls.{breaks_quotes, url_text, url_read};
 
 /// A number in its one form is read as itself.
@@ -52,6 +54,12 @@ pub fn words_are_read()
 /// Clean declarations are read from the style that writes each of them and a `;`.
 pub fn declarations_are_read()
     ensures { (pairs : List Pair) → AreClean pairs → declarations_of (style_text pairs) ≡ pairs }
+{}
+
+/// Nothing is open behind a style of clean declarations, and it has no backslash and no comment.
+pub fn styles_are_closed()
+    ensures closed { (pairs : List Pair) → AreClean pairs → open_behind nothing_open (style_text pairs) ≡ nothing_open }
+    ensures plain { (pairs : List Pair) → AreClean pairs → has_escape_or_comment (style_text pairs) ≡ false }
 {}
 
 /// A number, a length and a colour in their one forms are atoms.

@@ -1,0 +1,10 @@
+pub mod AgainLemmas
+pub mod CalmLemmas
+pub mod CanonicalLemmas
+pub mod CharacterLemmas
+pub mod CommentLemmas
+pub mod CompoundLemmas
+pub mod SelectorLemmas
+pub mod SheetLaws
+pub mod StatementLemmas
+pub mod StayLaws

@@ -1,0 +1,8 @@
+use Rattle.std.proofs.Common.{◌∙◌, ◌++◌, ap}
+use Rattle.std.specs.Str.{chars}
+use Rattle.std.proofs.lemmas.Str.{chars-nil}
+use Rattle.pur_sheet.proofs.texts.text_of.Goals as goal
+
+pub returns : goal.returns
+returns c =
+    c.in_ok-push_characters.ensures ∙ ap (λ t. t ++ c.args.characters.now) (ap chars c.new-text.ensures.bytes ∙ chars-nil)

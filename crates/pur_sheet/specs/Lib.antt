@@ -1,0 +1,7 @@
+pub mod Canonical
+pub mod Comments
+pub mod Laws
+pub mod Private
+pub mod Selectors
+pub mod Sheets
+pub mod Statements
