@@ -1,0 +1,3 @@
+-- Definitions that serve private contracts alone: no public contract says anything by them.
+pub mod Left
+pub mod Parts
