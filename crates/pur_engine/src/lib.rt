@@ -5,6 +5,7 @@
 mod fragments;
 mod laws;
 mod passes;
+mod reading;
 
 pub use laws::{
     attributes_leave_good, closing_leaves_good, good_is_kept, good_reaches_injectors, good_stays,
@@ -12,3 +13,4 @@ pub use laws::{
     purified_once, removal_leaves_good, spelled_is_cleaned, spelled_is_read,
 };
 pub use passes::{purify, purify_text};
+pub use reading::tokens;

@@ -5,3 +5,4 @@ pub mod Private
 pub mod Selectors
 pub mod Sheets
 pub mod Statements
+pub mod Styles

@@ -9,7 +9,9 @@ mod rules;
 mod selectors;
 mod sheets;
 mod statements;
+mod styles;
 mod texts;
 
 pub use laws::{canonical_sheets_stay, sheets_are_canonical};
 pub use sheets::{is_scope, read_sheet};
+pub use styles::styles;

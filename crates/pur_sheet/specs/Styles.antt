@@ -1,0 +1,14 @@
+-- The style sheets of a page's tokens (HTML 4.01, section 14.2.3).
+use Rattle.std.specs.Prelude.{ℕ, if◌then◌else◌, List, Option, Some, None, codes, filter_map}
+use Rattle.std.specs.List.{join_by}
+use Rattle.std.specs.Str.{bytes_eq}
+use Rattle.pur_tokens.specs.Tokens.{PlainToken, hidden_token}
+
+-- the body of a `style`, and none of any other token
+abbrev pub style_body : PlainToken → Option (List ℕ)
+style_body (hidden_token name body) = if bytes_eq name (codes "style") then Some body else None
+style_body other = None
+
+-- the bodies of all of them, in order, with a line feed between two
+abbrev pub styles_of : List PlainToken → List ℕ
+styles_of tokens = join_by (λ body. body) (codes "\n") (filter_map style_body tokens)
