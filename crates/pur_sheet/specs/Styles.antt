@@ -1,12 +1,16 @@
 -- The style sheets of a page's tokens (HTML 4.01, section 14.2.3).
-use Rattle.std.specs.Prelude.{ℕ, if◌then◌else◌, List, Option, Some, None, codes, filter_map}
+use Rattle.std.specs.Prelude.{ℕ, Bool, if◌then◌else◌, List, Option, Some, None, codes, filter_map}
 use Rattle.std.specs.List.{join_by}
 use Rattle.std.specs.Str.{bytes_eq}
 use Rattle.pur_tokens.specs.Tokens.{PlainToken, hidden_token}
 
+-- the name of a style sheet's element
+abbrev pub is_style : List ℕ → Bool
+is_style name = bytes_eq name (codes "style")
+
 -- the body of a `style`, and none of any other token
 abbrev pub style_body : PlainToken → Option (List ℕ)
-style_body (hidden_token name body) = if bytes_eq name (codes "style") then Some body else None
+style_body (hidden_token name body) = if is_style name then Some body else None
 style_body other = None
 
 -- the bodies of all of them, in order, with a line feed between two

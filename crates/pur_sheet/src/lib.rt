@@ -2,6 +2,7 @@
 //! set. Statements with `@`, rules with a selector that isn't known, and what a style may not set are left out.
 #![tactic(auto)]
 
+mod bodies;
 mod comments;
 mod compounds;
 mod laws;
@@ -9,9 +10,8 @@ mod rules;
 mod selectors;
 mod sheets;
 mod statements;
-mod styles;
 mod texts;
 
+pub use bodies::styles;
 pub use laws::{canonical_sheets_stay, sheets_are_canonical};
 pub use sheets::{is_scope, read_sheet};
-pub use styles::styles;

@@ -8,3 +8,8 @@ use Rattle.pur_sheet.specs.Styles.{style_body, styles_of}
 abbrev pub styles_behind : Bool → List PlainToken → List ℕ
 styles_behind true tokens = flat_map (λ body. codes "\n" ++ body) (filter_map style_body tokens)
 styles_behind false tokens = styles_of tokens
+
+-- a body, behind a line feed where one was written before
+abbrev pub body_behind : Bool → List ℕ → List ℕ
+body_behind true body = codes "\n" ++ body
+body_behind false body = body

@@ -1,11 +1,11 @@
 //! The style sheets of a page's tokens.
-ghost use Rattle.std.specs.Prelude.{◌≡◌, ◌++◌, ◌∷◌, [], List, map, IfOk};
+ghost use Rattle.std.specs.Prelude.{◌≡◌, ◌++◌, ◌∷◌, [], List, map, IfOk, OnOk};
 ghost use Rattle.std.specs.Option.{option_map};
 ghost use Rattle.std.specs.Str.{chars};
 ghost use Rattle.pur_text.specs.Texts.{text_of};
 ghost use Rattle.pur_tokens.specs.Tokens.{PlainToken, plain_token};
-ghost use Rattle.pur_sheet.specs.Private.Bodies.{styles_behind};
-ghost use Rattle.pur_sheet.specs.Styles.{style_body, styles_of};
+ghost use Rattle.pur_sheet.specs.Private.Bodies.{body_behind, styles_behind};
+ghost use Rattle.pur_sheet.specs.Styles.{is_style, style_body, styles_of};
 
 use crate::texts::push_text;
 use pur_tokens::Token;
@@ -34,14 +34,22 @@ fn push_style(text: &mut String, begun: bool, token: &Token) -> Result<bool, All
 {
     match body_of(token) {
         Some(body) => {
-            if begun {
-                push_text(text, "\n")?;
-            }
-            push_text(text, body)?;
+            push_body(text, begun, body)?;
             Ok(true)
         }
         None => Ok(begun),
     }
+}
+
+fn push_body(text: &mut String, begun: bool, body: &str) -> Result<(), AllocError>
+    ensures { OnOk result (text_of text.new ≡ text_of text.old ++ body_behind begun (chars body.now)) }
+{
+    if !begun {
+        return push_text(text, body);
+    }
+    push_text(text, "\n")?;
+    push_text(text, body)?;
+    Ok(())
 }
 
 /// The body of a `style`.
@@ -49,7 +57,20 @@ fn body_of(token: &Token) -> Option<&str>
     ensures { option_map (λ body. chars body.now) result ≡ style_body (plain_token token.now) }
 {
     match token {
-        Token::Hidden { name, body } if name.as_str() == "style" => Some(body.as_str()),
+        Token::Hidden { name, body } => {
+            if is_style(name.as_str()) {
+                Some(body.as_str())
+            } else {
+                None
+            }
+        }
         _ => None,
     }
+}
+
+/// Whether this names the element of a style sheet.
+fn is_style(name: &str) -> bool
+    ensures { result ≡ is_style (chars name.now) }
+{
+    name == "style"
 }
