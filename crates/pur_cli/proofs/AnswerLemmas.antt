@@ -7,11 +7,11 @@ use Rattle.pur_io.specs.Texts.{Name, text_named}
 use Rattle.pur_settings.specs.Rules.{Rules}
 use Rattle.pur_commands.specs.Accepted.{settings_named}
 use Rattle.pur_commands.specs.Choices.{ChoseFile, ChoseSettings}
-use Rattle.pur_commands.specs.Commands.{Names, PlainCommand, filter, check, sample, names_of}
+use Rattle.pur_commands.specs.Commands.{Names, PlainCommand, filter, check, sheet, sample, names_of}
 use Rattle.pur_commands.specs.Limits.{input_limit}
 use Rattle.pur_commands.specs.declared.status.Status.{Status}
 use Rattle.pur_commands.specs.declared.status.Status.TheVariants.{SettingsRefused, InputTooLong}
-use Rattle.pur_cli.specs.Answers.{Answer, refused, filtered, checked, answer_under, answer_for, answer_on, answer_to}
+use Rattle.pur_cli.specs.Answers.{Answer, refused, filtered, checked, sheeted, answer_under, answer_for, answer_on, answer_to}
 use Rattle.pur_cli.specs.Private.Answering.{Gives}
 
 none_is_none : IsSome {T = Rules} None → ⊥
@@ -44,6 +44,9 @@ filtered_is_none rules input same = subst RefusesSettings (sym same) tt
 checked_is_none : (rules : Rules) (input : List ℕ) → checked rules input ≢ refused SettingsRefused
 checked_is_none rules input same = subst RefusesSettings (sym same) tt
 
+sheeted_is_none : (scope : List ℕ) (rules : Rules) (input : List ℕ) → sheeted rules scope input ≢ refused SettingsRefused
+sheeted_is_none scope rules input same = subst RefusesSettings (sym same) tt
+
 module _ (told : Option (List (Name × List ℕ))) where
   -- what a command answers whose settings are refused
   pub settings_refused : (command : PlainCommand)
@@ -51,6 +54,8 @@ module _ (told : Option (List (Name × List ℕ))) where
       → IfSome told (λ t. answer_to command t ≡ refused SettingsRefused)
   settings_refused (filter names) none = IfSome_then told none (λ t is. ap (λ s. answer_for filtered s (text_named t names.input)) is)
   settings_refused (check names) none = IfSome_then told none (λ t is. ap (λ s. answer_for checked s (text_named t names.input)) is)
+  settings_refused (sheet scope names) none =
+      IfSome_then told none (λ t is. ap (λ s. answer_for (λ rules input. sheeted rules scope input) s (text_named t names.input)) is)
   settings_refused (sample pieces) none = absurd none
 
   -- what a command answers whose input is too long
@@ -59,6 +64,7 @@ module _ (told : Option (List (Name × List ℕ))) where
       → IfSome told (λ t. answer_to command t ≡ refused InputTooLong)
   input_refused (filter names) long = IfSome_then told long (λ t is. for_long filtered _ _ is.0 is.1)
   input_refused (check names) long = IfSome_then told long (λ t is. for_long checked _ _ is.0 is.1)
+  input_refused (sheet scope names) long = IfSome_then told long (λ t is. for_long (λ rules input. sheeted rules scope input) _ _ is.0 is.1)
   input_refused (sample pieces) long = absurd long
 
   -- where the input couldn't be read, the settings weren't refused
@@ -67,6 +73,8 @@ module _ (told : Option (List (Name × List ℕ))) where
       → IfSome told (λ t. ChoseSettings (names_of command) chosen ⊎ (answer_to command t ≢ refused SettingsRefused))
   settings_stand (filter names) chosen said = IfSome_then told said (λ t. ⊎_elim inl (λ some. inr (for_some filtered _ _ filtered_is_none some)))
   settings_stand (check names) chosen said = IfSome_then told said (λ t. ⊎_elim inl (λ some. inr (for_some checked _ _ checked_is_none some)))
+  settings_stand (sheet scope names) chosen said = IfSome_then told said (λ t. ⊎_elim inl (λ some.
+      inr (for_some (λ rules input. sheeted rules scope input) _ _ (sheeted_is_none scope) some)))
   settings_stand (sample pieces) chosen said = absurd said
 
 -- an input within its limit is worked on, under settings that were accepted

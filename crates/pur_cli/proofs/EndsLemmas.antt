@@ -5,7 +5,7 @@ use Rattle.pur_io.specs.Faults.{Rose}
 use Rattle.pur_io.specs.Texts.{Name}
 use Rattle.pur_io.specs.declared.traits.Shelf as shelf
 use Rattle.pur_io.specs.declared.traits.Sink as sink
-use Rattle.pur_commands.specs.Commands.{PlainCommand, filter, check, sample, names_of, IfSample}
+use Rattle.pur_commands.specs.Commands.{PlainCommand, filter, check, sheet, sample, names_of, IfSample}
 use Rattle.pur_commands.specs.Sources.{Stopped}
 use Rattle.pur_commands.specs.Statuses.{code_of, IsEarly}
 use Rattle.pur_commands.specs.declared.status.Status.{Status}
@@ -24,6 +24,7 @@ pub of_each_sample : (found : Option PlainCommand) {P : ℕ → Type 0} → ((n 
 of_each_sample None all = tt
 of_each_sample (Some (filter names)) all = tt
 of_each_sample (Some (check names)) all = tt
+of_each_sample (Some (sheet scope names)) all = tt
 of_each_sample (Some (sample pieces)) all = all pieces
 
 module _ {H O : Type 0} (h : shelf.Ghosts H) (o : sink.Ghosts O) (command : PlainCommand) (before after : H) (out written : O) where
@@ -47,7 +48,7 @@ module _ {H O : Type 0} (h : shelf.Ghosts H) (o : sink.Ghosts O) (command : Plai
         whole_validity = λ e. absurd (other _ e);
         nothing = λ d f v w. same;
         front = λ e. absurd (other _ e);
-        purified_is = λ e. absurd (other _ e);
+        promised = λ e. absurd (other _ e);
         sampled_is = λ e. absurd (other _ e);
         unwritten = λ e. absurd (other _ e);
         unread = s.unread;

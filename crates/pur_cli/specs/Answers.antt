@@ -5,7 +5,7 @@ use Rattle.pur_settings.specs.Rules.{Rules}
 use Rattle.pur_uripolicy.specs.HostRules.{rule_of}
 use Rattle.pur_engine.specs.Purified.{purified}
 use Rattle.pur_commands.specs.Accepted.{settings_named}
-use Rattle.pur_commands.specs.Commands.{Names, PlainCommand, filter, check, sample}
+use Rattle.pur_commands.specs.Commands.{Names, PlainCommand, filter, check, sheet, sample}
 use Rattle.pur_commands.specs.Limits.{input_limit}
 use Rattle.pur_commands.specs.Statuses.{code_of, report_of}
 use Rattle.pur_commands.specs.Words.{command_of}
@@ -13,14 +13,16 @@ use Rattle.pur_commands.specs.Writing.{TookFront}
 use Rattle.pur_commands.specs.declared.status.Status.{Status}
 use Rattle.pur_commands.specs.declared.status.Status.TheVariants.{Done, BadCommandLine, SettingsRefused, InputTooLong}
 use Rattle.pur_cli.specs.Samples.{sample_line}
+use Rattle.pur_cli.specs.Sheets.{safe_sheet}
 use Rattle.pur_cli.specs.Verdicts.{IsVerdict}
 
--- what a run answers: that it refuses, with a status; that it filters, or checks, an input under settings; or that it tells the
--- numbers of a sample of so many pieces
+-- what a run answers: that it refuses, with a status; that it filters, or checks, an input under settings; that it makes an input's
+-- style sheets safe for a scope under settings; or that it tells the numbers of a sample of so many pieces
 pub data Answer : Type 0 where
   refused : Status → Answer
   filtered : Rules → List ℕ → Answer
   checked : Rules → List ℕ → Answer
+  sheeted : Rules → List ℕ → List ℕ → Answer
   sampled : ℕ → Answer
 
 -- an answer's status: a check has the one that is true of its input
@@ -28,14 +30,16 @@ abbrev pub IsStatus : Answer → Status → Type 0
 IsStatus (refused s) status = status ≡ s
 IsStatus (filtered rules input) status = status ≡ Done
 IsStatus (checked rules input) status = IsVerdict rules (rule_of rules) input status
+IsStatus (sheeted rules scope input) status = status ≡ Done
 IsStatus (sampled pieces) status = status ≡ Done
 
 -- an answer's text on standard output: the purification of the input under the settings and the rule of hosts that they give, the
--- word that a check's status has, or the sample's line
+-- word that a check's status has, the safe sheet, or the sample's line
 abbrev pub text_of : Answer → Status → List ℕ
 text_of (refused s) status = []
 text_of (filtered rules input) status = purified rules (rule_of rules) input
 text_of (checked rules input) status = report_of status
+text_of (sheeted rules scope input) status = safe_sheet rules scope input
 text_of (sampled pieces) status = sample_line pieces
 
 -- a number is the one of a status that an answer has
@@ -67,6 +71,7 @@ answer_on work names texts = answer_for work (settings_named texts names.setting
 abbrev pub answer_to : PlainCommand → List (Name × List ℕ) → Answer
 answer_to (filter names) texts = answer_on filtered names texts
 answer_to (check names) texts = answer_on checked names texts
+answer_to (sheet scope names) texts = answer_on (λ rules input. sheeted rules scope input) names texts
 answer_to (sample pieces) texts = sampled pieces
 
 -- the answer to a command, if there is one: words that name none are refused before anything is read

@@ -1,5 +1,7 @@
 // The program as one call over the world outside.
-ghost use Rattle.std.specs.Prelude.{◌≡◌, ◌≢◌, ◌⊎◌, ◌+◌, ◌≤◌, map, Some, None, string_bytes, IfSome, IsTrue};
+ghost use Rattle.std.specs.Prelude.{◌≡◌, ◌≢◌, ◌⊎◌, ◌+◌, ◌≤◌, ◌==◌, not, true, map, Some, None, string_bytes, IfSome, IsTrue};
+ghost use Rattle.std.specs.List.{list_all};
+ghost use Rattle.std.specs.Str.{chars};
 ghost use Rattle.pur_io.specs.Faults.{Rose};
 ghost use Rattle.pur_io.specs.Taken.{taken_more};
 ghost use Rattle.pur_io.specs.Texts.{text_named};
@@ -11,13 +13,17 @@ ghost use Rattle.pur_engine.specs.Purified.{purified};
 ghost use Rattle.pur_engine.specs.Spelled.{IsSpelled};
 ghost use Rattle.pur_commands.specs.Accepted.{settings_named};
 ghost use Rattle.pur_commands.specs.Choices.{ChoseSettings, ChoseInput};
-ghost use Rattle.pur_commands.specs.Commands.{plain_command, IfFilter, IfSample};
+ghost use Rattle.pur_commands.specs.Commands.{plain_command, IfFilter, IfSample, IfSheet};
 ghost use Rattle.pur_commands.specs.Limits.{settings_limit, input_limit};
 ghost use Rattle.pur_commands.specs.Statuses.{code_of, TookLine, TookWholeLine};
 ghost use Rattle.pur_commands.specs.Words.{command_of, names_read};
 ghost use Rattle.pur_cli.specs.Answers.{refused, IsStatus, HasStatus, text_of, TookFrontOf, answer_of};
 ghost use Rattle.pur_cli.specs.Private.Ends.{Ends};
 ghost use Rattle.pur_cli.specs.Samples.{sample_line};
+ghost use Rattle.pur_cli.specs.Sheets.{styles_in};
+ghost use Rattle.pur_sheet.specs.Canonical.{IsCanonicalSheet};
+ghost use Rattle.pur_sheet.specs.Selectors.{is_scope};
+ghost use Rattle.pur_sheet.specs.Sheets.{sheet_of};
 
 use crate::answer::answer_to;
 use pur_commands::{Command, Status, complain, read_words, write_all};
@@ -30,8 +36,8 @@ use std::alloc::Global;
 /// refused where it has more than 65,536 bytes or an offence; without one the settings are the defaults. Then the input is
 /// read, and refused where it has more than 1,048,576 bytes. Of each text one byte past its limit is asked for, to tell that
 /// it has one. A command that filters writes the input's purification under the settings and the rule of hosts that they give to
-/// `out`; one that checks writes whether the input is a good fragment under them, and calls no pass of the filter; a sample reads
-/// nothing, and its line is written: the bytes of the sample and of its purification under the defaults, and the sum of these. The answer
+/// `out`; one that checks writes whether the input is a good fragment under them, and calls no pass of the filter; one for a scope
+/// writes the input's style sheets, made safe, as one; a sample reads nothing, and its line is written: the bytes of the sample and of its purification under the defaults, and the sum of these. The answer
 /// is the status that the program ends with (`Status`), and its line is written to `err`; a fault of `err` changes no status. The
 /// whole text is computed before the first write to `out`, and from there on no memory is taken.
 ///
@@ -104,6 +110,22 @@ pub fn run<H: Shelf, O: Sink, E: Sink>(
         purified rules (rule_of rules) (text_of (answer_of (map string_bytes words.now) texts) Status.Done)
         ≡ text_of (answer_of (map string_bytes words.now) texts) Status.Done))) }
 
+    // What a sheet is.
+    ensures sheet_canonical { result ≡ code_of Status.Done → IfSome (H.texts shelf.old) (λ texts.
+        IfSheet (command_of (map string_bytes words.now)) (λ scope names. IfSome (settings_named texts names.settings) (λ rules.
+        IsCanonicalSheet rules (rule_of rules) (chars scope) (chars (text_of (answer_of (map string_bytes words.now) texts) Status.Done))))) }
+    ensures sheet_plain { result ≡ code_of Status.Done → IfSome (H.texts shelf.old) (λ texts.
+        IfSheet (command_of (map string_bytes words.now)) (λ _ _.
+        IsTrue (list_all (λ c. not (c == 0x3C)) (chars (text_of (answer_of (map string_bytes words.now) texts) Status.Done))))) }
+    ensures sheet_itself { result ≡ code_of Status.Done → IfSome (H.texts shelf.old) (λ texts.
+        IfSheet (command_of (map string_bytes words.now)) (λ scope names. IfSome (settings_named texts names.settings) (λ rules.
+        sheet_of rules (rule_of rules) (chars scope) (chars (text_of (answer_of (map string_bytes words.now) texts) Status.Done))
+        ≡ chars (text_of (answer_of (map string_bytes words.now) texts) Status.Done)))) }
+    ensures sheet_stays { result ≡ code_of Status.Done → IfSome (H.texts shelf.old) (λ texts.
+        IfSheet (command_of (map string_bytes words.now)) (λ scope names. IfSome (settings_named texts names.settings) (λ rules.
+        IsCanonicalSheet rules (rule_of rules) (chars scope) (styles_in (text_named texts names.input)) →
+        chars (text_of (answer_of (map string_bytes words.now) texts) Status.Done) ≡ styles_in (text_named texts names.input)))) }
+
     // What a sample tells, whatever the shelf tells.
     ensures sampled { result ≡ code_of Status.Done → IfSample (command_of (map string_bytes words.now)) (λ pieces.
         O.taken out.new ≡ taken_more (O.taken out.old) (sample_line pieces)) }
@@ -144,6 +166,7 @@ pub fn run<H: Shelf, O: Sink, E: Sink>(
 
 // Obeys a command: its answer is computed whole, and then its text is written.
 fn obey<H: Shelf, O: Sink>(alloc: Global, command: Command, shelf: &mut H, out: &mut O) -> Status
+    requires { IfSheet (Some (plain_command command)) (λ scope _. is_scope (chars scope) ≡ true) }
     ensures { Ends H.Shelf O.Sink (plain_command command) shelf.old shelf.new out.old out.new result }
 {
     match answer_to(alloc, command, shelf) {

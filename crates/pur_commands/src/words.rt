@@ -2,29 +2,34 @@
 ghost use Rattle.std.specs.Prelude.{◌≡◌, ℕ, ◌+◌, ◌*◌, ◌≤◌, min, ◌∷◌, true, map, option_map, string_bytes, codes, IfOk};
 ghost use Rattle.std.specs.Char.{digit_value};
 ghost use Rattle.std.specs.List.{list_all};
+ghost use Rattle.std.specs.Str.{chars};
 ghost use Rattle.std.specs.Str.Parse.{digits_value};
 ghost use Rattle.clap.specs.Words.{app_of, first_value, found_of};
 ghost use Rattle.pur_text.specs.Hosts.{is_digit};
-ghost use Rattle.pur_commands.specs.Commands.{plain_command};
+ghost use Rattle.pur_commands.specs.Commands.{plain_command, IfSheet};
 ghost use Rattle.pur_commands.specs.Limits.{sample_limit};
-ghost use Rattle.pur_commands.specs.Words.{purify_app, command_of, command_with, command_on, is_set, is_short_numeral, size_of};
+ghost use Rattle.pur_commands.specs.Words.{purify_app, command_of, command_with, command_on, sheet_with, is_set, is_short_numeral, size_of};
+ghost use Rattle.pur_sheet.specs.Selectors.{is_scope};
 
 use crate::command::Command;
 use clap::error::ErrorKind;
 use clap::{Arg, ArgAction, ArgMatches};
+use pur_sheet::is_scope;
 use std::alloc::{AllocError, Global};
 
 /// The most pieces that the sample of a command may have.
 const SAMPLE_LIMIT: u32 = 10_000;
 
 /// The command that the words of the command line name, without the program's own name in front of them:
-/// `[--settings FILE] [--check] [INPUT]`, or `--sample N`. None exactly where `clap` finds a fault in the words, where `--sample`
-/// stands with anything else, and where N isn't one to five decimal digits with a value of at most 10,000.
+/// `[--settings FILE] [--check] [INPUT]`, `--sheet SCOPE [--settings FILE] [INPUT]`, or `--sample N`. None exactly where `clap` finds
+/// a fault in the words, where `--check` stands with `--sheet`, where SCOPE is no scope, where `--sample` stands with anything else,
+/// and where N isn't one to five decimal digits with a value of at most 10,000.
 ///
 /// The options may stand in any order, before INPUT or behind it, and each at most once. `--settings=FILE` is read like
 /// `--settings FILE`; behind a word `--` each word is an INPUT. The error is want of memory.
 pub fn read_words(alloc: Global, words: &[String]) -> Result<Option<Command>, AllocError>
-    ensures { IfOk result (λ command. option_map plain_command command ≡ command_of (map string_bytes words.now)) }
+    ensures command { IfOk result (λ command. option_map plain_command command ≡ command_of (map string_bytes words.now)) }
+    ensures scope { IfOk result (λ command. IfSheet (option_map plain_command command) (λ scope _. is_scope (chars scope) ≡ true)) }
 {
     let all = with_name(alloc, words)?;
     let program = command_line(alloc)?;
@@ -45,6 +50,9 @@ fn command_line<'a>(alloc: Global) -> Result<clap::Command<'a>, AllocError>
     let check = Arg::new(alloc, "check")
         .long("check")
         .action(ArgAction::SetTrue);
+    let sheet = Arg::new(alloc, "sheet")
+        .long("sheet")
+        .action(ArgAction::Set);
     let sample = Arg::new(alloc, "sample")
         .long("sample")
         .action(ArgAction::Set);
@@ -54,6 +62,7 @@ fn command_line<'a>(alloc: Global) -> Result<clap::Command<'a>, AllocError>
         .disable_version_flag(true)
         .arg(settings)?
         .arg(check)?
+        .arg(sheet)?
         .arg(sample)?
         .arg(input)
 }
@@ -71,16 +80,21 @@ fn with_name(alloc: Global, words: &[String]) -> Result<Vec<&str>, AllocError>
 
 // The command that matches name, if they name one.
 fn command_in(alloc: Global, matches: &ArgMatches<'_>) -> Result<Option<Command>, AllocError>
-    ensures { IfOk result (λ command. option_map plain_command command ≡ command_with (first_value (found_of matches.now) (codes "sample"))
-        (is_set (first_value (found_of matches.now) (codes "check")))
+    ensures { IfOk result (λ command. option_map plain_command command ≡ command_with
+        (is_set (first_value (found_of matches.now) (codes "check"))) (first_value (found_of matches.now) (codes "sheet"))
+        (first_value (found_of matches.now) (codes "sample"))
         (record { settings = first_value (found_of matches.now) (codes "settings"); input = first_value (found_of matches.now) (codes "input") })) }
 {
     let checks = is_set(matches.get_str("check"));
+    let sheet = matches.get_str("sheet");
     let settings = matches.get_str("settings");
     let input = matches.get_str("input");
     match matches.get_str("sample") {
-        None => Ok(Some(command_on(alloc, checks, settings, input)?)),
-        Some(_) if checks || settings.is_some() || input.is_some() => Ok(None),
+        None => match sheet {
+            None => Ok(Some(command_on(alloc, checks, settings, input)?)),
+            Some(scope) => sheet_with(alloc, checks, scope, settings, input),
+        },
+        Some(_) if checks || sheet.is_some() || settings.is_some() || input.is_some() => Ok(None),
         Some(size) => Ok(size_of(size.as_bytes()).map(Command::Sample)),
     }
 }
@@ -109,6 +123,31 @@ fn command_on(
     } else {
         Command::Filter { settings, input }
     })
+}
+
+// The command that makes the style sheets of the input of this name safe for a scope; none where it is no scope, or where the input
+// is to be checked.
+fn sheet_with(
+    alloc: Global,
+    checks: bool,
+    scope: &str,
+    settings: Option<&str>,
+    input: Option<&str>,
+) -> Result<Option<Command>, AllocError>
+    ensures { IfOk result (λ command. option_map plain_command command ≡ sheet_with checks scope.now
+        (record { settings = option_map (λ file. file.now) settings.entry; input = option_map (λ file. file.now) input.entry })) }
+{
+    if checks || !is_scope(alloc, scope)? {
+        return Ok(None);
+    }
+    let scope = String::from_str(alloc, scope)?;
+    let settings = copy_name(alloc, settings)?;
+    let input = copy_name(alloc, input)?;
+    Ok(Some(Command::Sheet {
+        scope,
+        settings,
+        input,
+    }))
 }
 
 // A name of the program's own, where there is one.

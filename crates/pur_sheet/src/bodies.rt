@@ -4,12 +4,13 @@ ghost use Rattle.std.specs.Option.{option_map};
 ghost use Rattle.std.specs.Str.{chars};
 ghost use Rattle.pur_text.specs.Texts.{text_of};
 ghost use Rattle.pur_tokens.specs.Tokens.{PlainToken, plain_token};
-ghost use Rattle.pur_sheet.specs.Private.Bodies.{body_behind, styles_behind};
-ghost use Rattle.pur_sheet.specs.Styles.{is_style, style_body, styles_of};
+ghost use Rattle.pur_sheet.specs.Private.Bodies.{body_behind};
+ghost use Rattle.pur_sheet.specs.Styles.{is_style, style_body, styles_of, styles_with};
 
 use crate::texts::push_text;
 use pur_tokens::Token;
 use std::alloc::{AllocError, Global};
+use std::marker::Model;
 
 /// The style sheets of a page: the bodies of its `style` elements in order, with a line feed between two.
 ///
@@ -17,27 +18,61 @@ use std::alloc::{AllocError, Global};
 pub fn styles(alloc: Global, tokens: &[Token]) -> Result<String, AllocError>
     ensures { IfOk result (λ text. text_of text ≡ styles_of (map plain_token tokens.now)) }
 {
-    let mut text = String::new(alloc);
-    let mut begun = false;
-    let mut rest = tokens;
-    'writing: while let [token, behind @ ..] = rest {
-        begun = push_style(&mut text, begun, token)?;
-        rest = behind;
+    let mut styles = StyleSheets::new(alloc);
+    for token in tokens {
+        styles.put(token)?;
     }
-    Ok(text)
+    Ok(styles.finish())
 }
 
-/// Writes the body of a `style`, on a line of its own where one was written before; gives whether one was written by now.
-fn push_style(text: &mut String, begun: bool, token: &Token) -> Result<bool, AllocError>
-    ensures { IfOk result (λ by_now. (more : List PlainToken) →
-        text_of text.new ++ styles_behind by_now more ≡ text_of text.old ++ styles_behind begun (plain_token token.now ∷ more)) }
-{
-    match body_of(token) {
-        Some(body) => {
-            push_body(text, begun, body)?;
-            Ok(true)
+/// Takes the style sheets out of tokens that come one at a time, as [`styles`] does out of all.
+///
+/// Contracts see what was taken out so far.
+#[derive(Drop)]
+pub struct StyleSheets {
+    text: String,
+    begun: bool,
+}
+
+impl Model for StyleSheets {
+    ghost use Rattle.pur_text.specs.Texts.{text_of};
+    ghost use Rattle.pur_sheet.specs.Styles.{TakenStyles};
+
+    ghost Value = { TakenStyles };
+
+    ghost view = { λ styles. record { text = text_of styles.text; begun = styles.begun } };
+}
+
+impl StyleSheets {
+    /// The style sheets in front of all tokens: none.
+    pub fn new(alloc: Global) -> StyleSheets
+        ensures { (more : List PlainToken) → styles_with result more ≡ styles_of more }
+    {
+        StyleSheets {
+            text: String::new(alloc),
+            begun: false,
         }
-        None => Ok(begun),
+    }
+
+    /// Takes the next token.
+    ///
+    /// The error is want of memory, and what was taken out is then to be let go.
+    pub fn put(&mut self, token: &Token) -> Result<(), AllocError>
+        ensures { OnOk result ((more : List PlainToken) →
+            styles_with self.new more ≡ styles_with self.old (plain_token token.now ∷ more)) }
+    {
+        if let Some(body) = body_of(token) {
+            push_body(&mut self.text, self.begun, body)?;
+            self.begun = true;
+        }
+        Ok(())
+    }
+
+    /// The style sheets of all tokens that came.
+    pub fn finish(self) -> String
+        ensures { text_of result ≡ styles_with self [] }
+    {
+        self.text
     }
 }
 

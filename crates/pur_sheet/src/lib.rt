@@ -12,6 +12,6 @@ mod sheets;
 mod statements;
 mod texts;
 
-pub use bodies::styles;
+pub use bodies::{StyleSheets, styles};
 pub use laws::{canonical_sheets_stay, sheets_are_canonical};
 pub use sheets::{is_scope, read_sheet};

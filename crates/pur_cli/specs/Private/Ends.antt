@@ -11,7 +11,7 @@ use Rattle.pur_commands.specs.declared.status.Status.{Status}
 use Rattle.pur_commands.specs.declared.status.Status.TheVariants.{Done, OutOfMemory, BadCommandLine, SpellingFault, ValidityFault, SettingsRefused, InputTooLong, CannotRead, CannotWrite}
 use Rattle.pur_cli.specs.Answers.{refused, IsStatus, text_of, TookFrontOf, answer_to}
 use Rattle.pur_cli.specs.Samples.{sample_line}
-use Rattle.pur_cli.specs.Private.Answering.{IsPurified}
+use Rattle.pur_cli.specs.Private.Answering.{IsPromised}
 
 -- a command over the texts of a shelf, whose answer goes to a sink, ends with a status
 pub record Ends {H O : Type 0} (h : shelf.Ghosts H) (o : sink.Ghosts O) (command : PlainCommand) (before after : H) (out written : O)
@@ -32,7 +32,7 @@ pub record Ends {H O : Type 0} (h : shelf.Ghosts H) (o : sink.Ghosts O) (command
   pub nothing : status ≢ Done → status ≢ SpellingFault → status ≢ ValidityFault → status ≢ CannotWrite → o.taken written ≡ o.taken out
   pub front : status ≡ CannotWrite → IfSome (h.texts before) (λ texts. TookFrontOf (answer_to command texts) (o.taken out) (o.taken written))
   -- what is promised of the text
-  pub purified_is : status ≡ Done → IfSome (h.texts before) (λ texts. IsPurified (answer_to command texts) (text_of (answer_to command texts) Done))
+  pub promised : status ≡ Done → IfSome (h.texts before) (λ texts. IsPromised (answer_to command texts) (text_of (answer_to command texts) Done))
   pub sampled_is : status ≡ Done → IfSample (Some command) (λ pieces. o.taken written ≡ taken_more (o.taken out) (sample_line pieces))
   -- what the counts of faults did
   pub unwritten : status ≡ CannotWrite → Rose (o.faults out) (o.faults written)
