@@ -1,5 +1,5 @@
 -- Words stay words, where texts become one and elements go that must have a URI.
-use Rattle.std.proofs.Common.{◌≡◌, ◌∙◌, ◌≤◌, ℕ, zero, suc, Bool, true, false, not, List, [], ◌∷◌, ◌++◌, length, Option, Some, None, refl, ap, sym, subst, arith}
+use Rattle.std.proofs.Common.{◌≡◌, ◌∙◌, ◌≤◌, ℕ, zero, suc, Bool, true, false, not, List, [], ◌∷◌, length, Option, Some, None, refl, ap, sym, subst, arith}
 use Rattle.std.specs.Prelude.{◌&&◌, ◌||◌, if◌then◌else◌}
 use Rattle.std.specs.List.{list_all, list_any}
 use Rattle.std.specs.Option.{option_map_or}
@@ -13,7 +13,7 @@ use Rattle.pur_modules.specs.declared.kinds.Doctype.{Doctype}
 use Rattle.pur_modules.specs.Contents.{content_held}
 use Rattle.pur_modules.specs.Expressions.{Step, expression_of, has_text_letter}
 use Rattle.pur_modules.proofs.KindLaws.{each_kind}
-use Rattle.pur_models.specs.Languages.{IsInLanguage, IsInWay, IsRun, Language, all_among, first_way, has_letter, later_way, no_step, same_child, step_first}
+use Rattle.pur_models.specs.Languages.{IsInLanguage, IsInWay, IsRun, all_among, first_way, has_letter, later_way, no_step, same_child, step_first}
 use Rattle.pur_models.proofs.LetterLemmas.{same_child-Decides}
 use Rattle.pur_attrlist.specs.Attributes.{Attribute}
 use Rattle.pur_attrlist.proofs.AttributeLaws.{both_false}

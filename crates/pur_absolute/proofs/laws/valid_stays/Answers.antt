@@ -1,13 +1,12 @@
 -- Each part of validity stays.
 use Rattle.std.proofs.Common.{◌≡◌, true, [], arith}
 use Rattle.pur_settings.specs.Rules.{permits_element}
-use Rattle.pur_tree.specs.Nodes.{Nodes, PlainElem}
 use Rattle.pur_tree.specs.Places.{fragment}
 use Rattle.pur_tree.specs.Walks.{joined_nodes, walk}
 use Rattle.pur_tree.proofs.WalkLemmas.{level-joined_nodes}
-use Rattle.pur_validity.specs.Attributes.{each_elem, has_one_language, has_prefix, has_required}
+use Rattle.pur_validity.specs.Attributes.{has_one_language, has_prefix, has_required}
 use Rattle.pur_absolute.specs.Absolute.{absolute_element}
-use Rattle.pur_absolute.proofs.EachLemmas.{Each, each-absolute, each-from, each-joined, from-each}
+use Rattle.pur_absolute.proofs.EachLemmas.{each-absolute, each-from, each-joined, from-each}
 use Rattle.pur_absolute.proofs.FewerLemmas.{all-fewer, different-fewer}
 use Rattle.pur_absolute.proofs.IdLemmas.{any_text, ids-absolute}
 use Rattle.pur_absolute.proofs.LeftLemmas.{low-left, walk-left}
