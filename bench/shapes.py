@@ -105,6 +105,8 @@ KINDS = {
     "links that don't pass": repeated(b"<a href=javascript:b>c</a>"),
     "pictures": repeated(b"<img src=a>"),
     "one long URI": repeated(b"%20", head=b"<a href='/", tail=b"'>b"),
+    "one path of dot segments": repeated(b"../", head=b"<a href='", tail=b"'>b"),
+    "one path of short segments": repeated(b"a/", head=b"<a href='", tail=b"'>b"),
     "declarations of one property": declarations,
     "styles": repeated(b"<b style=color:red>a</b>"),
     "parentheses in a style": repeated(b"(", head=b"<p style='color:", tail=b"'>x"),

@@ -1,9 +1,9 @@
 -- What is left of nodes, and what it keeps of them.
-use Rattle.std.proofs.Common.{◌≡◌, Bool, false, List, Option, Some, None, refl, ap, sym, subst}
+use Rattle.std.proofs.Common.{◌≡◌, ◌≤◌, Bool, false, List, Option, Some, None, refl, ap, sym, subst}
 use Rattle.std.specs.Option.{option_map_or}
 use Rattle.pur_attrlist.specs.Attributes.{Attribute}
 use Rattle.pur_tree.specs.Forests.{IsForest}
-use Rattle.pur_tree.specs.Nodes.{PlainElem, Nodes, no_nodes, text_first, elem_first, nodes_append, plain_elem}
+use Rattle.pur_tree.specs.Nodes.{PlainElem, Nodes, no_nodes, text_first, elem_first, nodes_append, plain_elem, level_of}
 use Rattle.pur_tree.specs.Places.{fragment, level_limit}
 use Rattle.pur_tree.specs.Properties.{Property, Holds, levels, soundness}
 use Rattle.pur_tree.specs.Walks.{walk}
@@ -24,11 +24,15 @@ Holds-left q named (elem_left {e} {d} {k} {l} is kids more) w h = (
 )
 Holds-left q named (elem_gone more) w h = Holds-left q named more w h.2
 
+pub low-left : {f g : Nodes} → IsLeft f g → level_of f ≤ level_limit → level_of g ≤ level_limit
+low-left {f} {g} is low =
+    test-levels level_limit fragment g
+    (Holds-left (levels level_limit) (λ at e d same h. subst (λ name. (levels level_limit).elem at (record { name = name; attrs = d.attrs })) (sym same) h) is fragment
+    (levels-test level_limit fragment f low))
+
 pub IsForest-left : {f g : Nodes} → IsLeft f g → IsForest f → IsForest g
 IsForest-left {f} {g} is h = record {
-  low = test-levels level_limit fragment g
-      (Holds-left (levels level_limit) (λ at e d same low. subst (λ name. (levels level_limit).elem at (record { name = name; attrs = d.attrs })) (sym same) low) is fragment
-      (levels-test level_limit fragment f h.low));
+  low = low-left is h.low;
   sound = test-soundness g (Holds-left soundness (λ closed e d same is. is) is false (soundness-test f h.sound));
 }
 

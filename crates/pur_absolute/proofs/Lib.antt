@@ -6,3 +6,7 @@ pub mod UriLemmas
 pub mod EachLemmas
 pub mod SettledLemmas
 pub mod StyleSettledLemmas
+pub mod FewerLemmas
+pub mod StayingLemmas
+pub mod WordLemmas
+pub mod IdLemmas

@@ -18,6 +18,7 @@ use Rattle.pur_uripolicy.specs.HostRules.{PlainHostRule}
 use Rattle.pur_uripolicy.specs.declared.uses.UriUse.TheVariants.{Embed}
 use Rattle.pur_resolve.specs.Bases.{IsBase}
 use Rattle.pur_validity.specs.Attributes.{each_elem, has_valid_values}
+use Rattle.pur_validity.specs.Validity.{IsValid}
 use Rattle.pur_absolute.specs.Absolute.{url_in, with_absolute_uris}
 
 -- a text writes a URI that has a scheme and is allowed
@@ -69,3 +70,8 @@ pub record KeepsNodes (allows : PlainUri → Bool) (base : PlainUri) (nodes : No
   pub joined : is_joined (with_absolute_uris allows base nodes) ≡ true
   pub excluded : (outer : List Element) → Holds free outer nodes → Holds free outer (with_absolute_uris allows base nodes)
   pub allowed : (permits : Element → Bool) → Holds (permitted permits) tt nodes → Holds (permitted permits) tt (with_absolute_uris allows base nodes)
+
+-- valid nodes stay valid, where the base may stand in them
+abbrev pub StaysValid : Type 0
+StaysValid = (rules : Rules) (rule : PlainHostRule) (allows : PlainUri → Bool) (base : PlainUri) (nodes : Nodes) → IsFitBase rules rule base
+    → IsValid rules rule nodes → IsValid rules rule (with_absolute_uris allows base nodes)

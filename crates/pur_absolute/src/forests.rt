@@ -1,14 +1,19 @@
 //! Nodes whose URIs are absolute.
 ghost use Rattle.std.specs.Prelude.{◌≡◌, Bool, IfOk, OnOk, OnErr};
+ghost use Rattle.pur_settings.specs.Rules.{Rules};
 ghost use Rattle.pur_tree.specs.Image.{nodes_of};
 ghost use Rattle.pur_tree.specs.Nodes.{no_nodes};
 ghost use Rattle.pur_tree.specs.Walks.{walk};
 ghost use Rattle.pur_uri.specs.Uris.{PlainUri};
+ghost use Rattle.pur_uripolicy.specs.HostRules.{PlainHostRule};
+ghost use Rattle.pur_validity.specs.Validity.{IsValid};
 ghost use Rattle.pur_absolute.specs.Absolute.{absolute_element, with_absolute_uris};
+ghost use Rattle.pur_absolute.specs.Laws.{IsFitBase};
 ghost use Rattle.pur_absolute.specs.Private.Left.{IsLeft};
 ghost use Rattle.pur_absolute.specs.Rules.{AnswersAs};
 
 use crate::attributes::absolute_attributes;
+use crate::laws::valid_stays;
 use pur_resolve::Base;
 use pur_tree::{Elem, Forest, Node, joins_texts, push_elem, push_text_node};
 use pur_uripolicy::{SiteGate, SiteRule, UriTest};
@@ -29,8 +34,11 @@ pub fn absolute<R: SiteRule, F: UriTest>(
 ) -> Result<(), AllocError>
     ensures ok { OnOk result ((allows : PlainUri → Bool) → AnswersAs (R.allows site.now) allows
         → nodes_of forest.new ≡ with_absolute_uris allows base.now (nodes_of forest.old)) }
+    ensures valid { OnOk result ((rules : Rules) (rule : PlainHostRule) (allows : PlainUri → Bool) → AnswersAs (R.allows site.now) allows
+        → IsFitBase rules rule base.now → IsValid rules rule (nodes_of forest.old) → IsValid rules rule (nodes_of forest.new)) }
     ensures err { OnErr result (nodes_of forest.new ≡ no_nodes) }
 {
+    valid_stays();
     let nodes = forest.take_nodes();
     let nodes = absolute_nodes(alloc, base, site, nodes)?;
     forest.put_nodes(nodes);

@@ -2,7 +2,7 @@
 ghost use Rattle.std.specs.Prelude.{Bool};
 ghost use Rattle.pur_tree.specs.Nodes.{Nodes};
 ghost use Rattle.pur_uri.specs.Uris.{PlainUri};
-ghost use Rattle.pur_absolute.specs.Laws.{AbsoluteStays, KeepsNodes};
+ghost use Rattle.pur_absolute.specs.Laws.{AbsoluteStays, KeepsNodes, StaysValid};
 ghost use Rattle.pur_absolute.specs.Rows.{LinksGetTheScheme, UrlsGetTheHost, CommentsAreDropped, PicturesGoWithTheirSource, LinksLoseTheirTarget, TextsAreJoined};
 
 use pur_cssprops::{canonical_is_read_as_itself, styles_are_allowed};
@@ -44,6 +44,17 @@ pub fn absolute_stays()
 pub fn keeps_nodes()
     ensures { (allows : PlainUri → Bool) (base : PlainUri) (nodes : Nodes) → KeepsNodes allows base nodes }
 {}
+
+/// Valid nodes stay valid, under the same settings and rule of hosts, where the base may itself be embedded under both.
+///
+/// What goes is a picture or a form that must have its URI; each kind of content that has one of them is a kind of any number
+/// of letters, so that a word without it is a word.
+pub fn valid_stays()
+    ensures { StaysValid }
+{
+    absolute_stays();
+    keeps_nodes();
+}
 
 /// Worked examples: what becomes of a fragment at a base.
 pub fn worked_examples()

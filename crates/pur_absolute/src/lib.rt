@@ -10,4 +10,4 @@ mod laws;
 mod styles;
 
 pub use forests::absolute;
-pub use laws::{absolute_stays, keeps_nodes, worked_examples};
+pub use laws::{absolute_stays, keeps_nodes, valid_stays, worked_examples};
