@@ -6,7 +6,7 @@ ghost use Rattle.pur_uripolicy.specs.HostRules.{admits};
 
 use crate::endings::{Failing, assert_none_fails};
 use pur_settings::Settings;
-use pur_sheet::read_sheet;
+use pur_sheet::{is_scope, read_sheet};
 use pur_uri::Uri;
 use pur_uripolicy::{HostRule, UriGate, UriTest};
 use std::alloc::{AllocError, Global};
@@ -199,7 +199,11 @@ fn is_read<F: UriTest>(
     raw: &str,
     want: &str,
 ) -> Result<bool, AllocError> {
-    let sheet = read_sheet(alloc, settings, gate, "s", raw)?;
+    let scope = "s";
+    if !is_scope(alloc, scope)? {
+        return Ok(false);
+    }
+    let sheet = read_sheet(alloc, settings, gate, scope, raw)?;
     Ok(sheet.as_str() == want)
 }
 
