@@ -13,6 +13,7 @@ ghost use Rattle.pur_inject.specs.Private.Growing.{grown};
 ghost use Rattle.pur_inject.specs.Private.Standing.{going_on, piece_before, standing};
 
 use crate::growing::Growing;
+use crate::remaining::Remaining;
 use crate::runs::{Sort, cut_run};
 use pur_attrlist::AttrList;
 use pur_modules::{Content, Doctype, is_edit, is_inline};
@@ -72,12 +73,13 @@ fn in_paragraphs(alloc: Global, doctype: Doctype, nodes: Vec<Node>) -> Result<Ve
     ensures { IfOk result (λ out. nodes_of out.items ≡ in_paragraphs doctype (nodes_of nodes.items)) }
 {
     let done = Growing::with_room(alloc, room_for(&nodes))?;
+    let mut remaining = Remaining::of(nodes);
     let mut paragraphs = Paragraphs {
         done,
         piece: Growing::new(alloc),
         text: String::new(alloc),
     };
-    for node in nodes {
+    'taking: while let Some(node) = remaining.take_first() {
         match node {
             Node::Text(text) => paragraphs.put_text(text)?,
             Node::Elem(elem) => paragraphs.put_elem(alloc, doctype, elem)?,
