@@ -1,4 +1,4 @@
-use Rattle.std.proofs.Common.{◌≡◌, ◌∙◌, ◌++◌, [], List, ℕ, ap, sym, append-nil, string_bytes}
+use Rattle.std.proofs.Common.{◌≡◌, ◌∙◌, ◌++◌, true, [], List, ℕ, ap, sym, append-nil, string_bytes}
 use Rattle.std.specs.Str.{chars}
 use Rattle.std.proofs.lemmas.Str.{chars-nil}
 use Rattle.pur_tree.specs.Image.{nodes_of, node_before}
@@ -6,9 +6,10 @@ use Rattle.pur_tree.specs.Nodes.{no_nodes}
 use Rattle.pur_tree.proofs.NodeLemmas.{before_text, before_elem}
 use Rattle.pur_inject.specs.Paragraphs.{stands_in_paragraphs, with_blank_lines, wrapped_run}
 use Rattle.pur_inject.specs.Private.Remaining.{remaining}
-use Rattle.pur_inject.specs.Private.Standing.{ahead, going_on, standing}
+use Rattle.pur_inject.specs.Private.Standing.{ahead, are_apart, going_on, standing}
 use Rattle.pur_inject.specs.Runs.{with_runs}
 use Rattle.pur_inject.specs.Signs.{letters, nodes_from, signs_of}
+use Rattle.pur_inject.proofs.ApartLemmas.{apart-stay}
 use Rattle.pur_inject.proofs.GrowingLemmas.{grown-new, starts}
 use Rattle.pur_inject.proofs.paragraphs.in_paragraphs.Goals as goal
 
@@ -56,3 +57,10 @@ returns c =
     ∙ ap (going_on d p) (append-nil (with_blank_lines text) ∙ ap with_blank_lines (sym (append-nil text)))
     ∙ ap (λ f. standing d p (signs_of f)) (sym c.in_default.ensures.none)
     ∙ c.taking.invariant
+
+pub returns-then-are_apart : goal.returns-then-are_apart
+returns-then-are_apart c =
+    let nodes = c.args.nodes.items in
+    let apart : are_apart c.args.doctype (nodes_of nodes) ≡ true =
+    ap (λ items. are_apart c.args.doctype (nodes_of items)) (sym c.deref.ensures.value) ∙ sym c.are_apart.ensures ∙ c.if-are_apart.true in
+    sym (apart-stay c.args.doctype (nodes_of nodes) apart)
