@@ -2,7 +2,7 @@
 
 use crate::endings::{Failing, assert_none_fails};
 use crate::engine::gives_under;
-use std::alloc::Global;
+use std::alloc::{AllocError, Global};
 
 // A name, a text of settings, an input and its purification.
 type Row = (&'static str, &'static str, &'static str, &'static str);
@@ -218,4 +218,82 @@ fn first_other(alloc: Global, rows: &[Row]) -> Failing {
 #[test]
 fn links_and_paragraphs_are_made_once(rt: HostRuntime) {
     assert_none_fails(&rt, first_other(rt.alloc(), &INJECTED));
+}
+
+// A name, a text of settings, what is repeated in an input, and a purification: what stands first, what is repeated, and what
+// stands last.
+type Repeated = (
+    &'static str,
+    &'static str,
+    &'static str,
+    (&'static str, &'static str, &'static str),
+);
+
+// Lists of nodes of which most is taken before the last is: where nothing is made of them, and where much is.
+static REPEATED: [Repeated; 5] = [
+    (
+        "blocks_alone_stay",
+        BOTH,
+        "<p>a</p><hr />",
+        ("", "<p>a</p><hr />", ""),
+    ),
+    (
+        "white_space_between_blocks_stays",
+        BOTH,
+        "<p>a</p>\n<div>b</div> ",
+        ("", "<p>a</p>\n<div>b</div> ", ""),
+    ),
+    (
+        "each_run_becomes_a_paragraph",
+        BOTH,
+        "a <b>b</b><hr />c<br />d\n\n\n",
+        ("", "<p>a <b>b</b></p><hr /><p>c<br />d</p>\n\n", ""),
+    ),
+    (
+        "links_in_order_become_one_paragraph",
+        BOTH,
+        "ftp://a.b/c d<br />e ",
+        (
+            "<p>",
+            "<a href=\"ftp://a.b/c\">ftp://a.b/c</a> d<br />e ",
+            "</p>",
+        ),
+    ),
+    (
+        "links_in_order_without_paragraphs",
+        LINKS,
+        "ftp://a.b/c d<br />e ",
+        ("", "<a href=\"ftp://a.b/c\">ftp://a.b/c</a> d<br />e ", ""),
+    ),
+];
+
+// How often a row's pieces stand in its texts.
+const TIMES: usize = 50;
+
+fn repeated(alloc: Global, first: &str, piece: &str, last: &str) -> Result<String, AllocError> {
+    let mut text = String::new(alloc);
+    text.push_str(first)?;
+    for _ in 0..TIMES {
+        text.push_str(piece)?;
+    }
+    text.push_str(last)?;
+    Ok(text)
+}
+
+// The name of the first row of repeated pieces whose purification is another.
+fn first_other_repeated(alloc: Global, rows: &[Repeated]) -> Failing {
+    for (name, document, piece, want) in rows {
+        let (first, made, last) = want;
+        let input = repeated(alloc, "", piece, "")?;
+        let output = repeated(alloc, first, made, last)?;
+        if !gives_under(alloc, document, input.as_str(), output.as_str())? {
+            return Ok(Some(*name));
+        }
+    }
+    Ok(None)
+}
+
+#[test]
+fn long_lists_are_gone_through_in_order(rt: HostRuntime) {
+    assert_none_fails(&rt, first_other_repeated(rt.alloc(), &REPEATED));
 }

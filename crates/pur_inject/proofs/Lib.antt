@@ -2,6 +2,7 @@ pub mod RunLemmas
 pub mod SignLemmas
 pub mod CutLemmas
 pub mod GrowingLemmas
+pub mod ApartLemmas
 pub mod LevelLemmas
 pub mod AddressLemmas
 pub mod LinkLemmas

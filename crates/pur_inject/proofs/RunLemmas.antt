@@ -136,6 +136,10 @@ module _ (test : Sign → Bool) where
         ∙ ap (λ t. (t ++ []) ++ (x ∷ with_runs test made (l ++ m))) empty
         ∙ ap (λ t. x ∷ t) (with-others l m both.1)
 
+    pub with-none : (l : List Sign) → list_all (λ x. not (test x)) l ≡ true → with_runs test made l ≡ l
+    with-none l none =
+        ap (with_runs test made) (sym (append-nil l)) ∙ with-others l [] none ∙ ap (λ t. l ++ (t ++ [])) empty ∙ append-nil l
+
     -- nothing changes where each run stays
     module _ (passes : List Sign → Bool) (stays : (run : List Sign) → passes run ≡ true → made run ≡ run) where
       behind-stays : (l : List Sign) → list_all passes (later_runs test l) ≡ true → front_run test l ++ behind_run test made l ≡ l

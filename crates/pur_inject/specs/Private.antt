@@ -2,4 +2,5 @@
 pub mod Cutting
 pub mod Growing
 pub mod Linking
+pub mod Remaining
 pub mod Standing

@@ -10,6 +10,7 @@ mod laws;
 mod linking;
 mod paragraphs;
 mod places;
+mod remaining;
 mod runs;
 
 pub use laws::{

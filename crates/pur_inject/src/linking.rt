@@ -16,6 +16,7 @@ ghost use Rattle.pur_inject.specs.Private.Linking.{linked_inside, texts_linked, 
 use crate::addresses::{address_in, is_colonless, may_be_linked, prefix_count};
 use crate::growing::Growing;
 use crate::places::LinkPlace;
+use crate::remaining::Remaining;
 use crate::runs::{Sort, cut_run};
 use pur_attrlist::AttrList;
 use pur_names::{Attr, Element};
@@ -168,7 +169,8 @@ fn texts_linked<F: UriTest>(
     ensures { IfOk result (λ out. nodes_of out.items ≡ texts_linked (may_be_linked settings.now gate.now) (nodes_of nodes.items)) }
 {
     let mut out = Growing::with_room(alloc, room_for(&nodes))?;
-    for node in nodes {
+    let mut remaining = Remaining::of(nodes);
+    'taking: while let Some(node) = remaining.take_first() {
         match node {
             Node::Text(text) => put_text_node(alloc, settings, gate, &mut out, text)?,
             Node::Elem(elem) => out.put_elem(alloc, elem)?,

@@ -10,9 +10,10 @@ ghost use Rattle.pur_text.specs.Characters.{is_blank};
 ghost use Rattle.pur_inject.specs.Paragraphs.{in_paragraphs, is_in_paragraphs, is_flow, are_blank, is_paragraph, makes_paragraphs, marked_run, with_blank_lines, with_paragraphs};
 ghost use Rattle.pur_inject.specs.Signs.{Sign, element, letters};
 ghost use Rattle.pur_inject.specs.Private.Growing.{grown};
-ghost use Rattle.pur_inject.specs.Private.Standing.{going_on, piece_before, standing};
+ghost use Rattle.pur_inject.specs.Private.Standing.{are_apart, going_on, piece_before, standing};
 
 use crate::growing::Growing;
+use crate::remaining::Remaining;
 use crate::runs::{Sort, cut_run};
 use pur_attrlist::AttrList;
 use pur_modules::{Content, Doctype, is_edit, is_inline};
@@ -71,13 +72,17 @@ fn is_in_paragraphs(doctype: Doctype, name: Element) -> bool
 fn in_paragraphs(alloc: Global, doctype: Doctype, nodes: Vec<Node>) -> Result<Vec<Node>, AllocError>
     ensures { IfOk result (λ out. nodes_of out.items ≡ in_paragraphs doctype (nodes_of nodes.items)) }
 {
+    if are_apart(doctype, &nodes) {
+        return Ok(nodes);
+    }
     let done = Growing::with_room(alloc, room_for(&nodes))?;
+    let mut remaining = Remaining::of(nodes);
     let mut paragraphs = Paragraphs {
         done,
         piece: Growing::new(alloc),
         text: String::new(alloc),
     };
-    for node in nodes {
+    'taking: while let Some(node) = remaining.take_first() {
         match node {
             Node::Text(text) => paragraphs.put_text(text)?,
             Node::Elem(elem) => paragraphs.put_elem(alloc, doctype, elem)?,
@@ -87,6 +92,27 @@ fn in_paragraphs(alloc: Global, doctype: Doctype, nodes: Vec<Node>) -> Result<Ve
     paragraphs.end_piece(alloc)?;
     let nodes = paragraphs.done.finish(alloc)?;
     Ok(nodes)
+}
+
+// Whether nodes are elements that stand in no paragraph, all of them: then there is nothing to do.
+fn are_apart(doctype: Doctype, nodes: &[Node]) -> bool
+    ensures { result ≡ are_apart doctype (nodes_of nodes.now) }
+{
+    for node in nodes {
+        if !is_apart(doctype, node) {
+            return false;
+        }
+    }
+    true
+}
+
+fn is_apart(doctype: Doctype, node: &Node) -> bool
+    ensures { (more : Nodes) → are_apart doctype (node_before node.now more) ≡ (if result then are_apart doctype more else false) }
+{
+    match node {
+        Node::Text(_) => false,
+        Node::Elem(elem) => !is_in_paragraphs(doctype, elem.name),
+    }
 }
 
 // How many nodes there are at most once nodes are in paragraphs, if no blank line lies in two texts: it becomes a text of its
