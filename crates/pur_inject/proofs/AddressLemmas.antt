@@ -1,9 +1,9 @@
 -- Where an address begins in a run, and what stands in front of it and behind it.
 use Rattle.std.proofs.Common.{◌≡◌, ◌⊎◌, ℕ, suc, ◌<◌, ◌≤◌, Bool, true, false, not, ◌&&◌, List, [], ◌∷◌, length, get_or, refl, sym, ap, ◌∙◌, arith, ⊎_elim, nat_eq, ◌++◌, ◌-◌, take, drop, subst, take-append-drop}
-use Rattle.std.specs.Prelude.{nat_lt, ◌||◌, if◌then◌else◌, reverse, codes}
+use Rattle.std.specs.Prelude.{◌||◌, if◌then◌else◌, reverse, codes}
 use Rattle.std.specs.Char.{is_ascii_alphanumeric}
 use Rattle.std.specs.Cmp.Lexicographic.{pointwise}
-use Rattle.std.specs.List.{list_all, list_any, starts_with, prefix_len, suffix_len}
+use Rattle.std.specs.List.{list_all, list_any, starts_with, prefix_len}
 use Rattle.std.specs.Str.{IsCharBoundary}
 use Rattle.std.proofs.lemmas.Bool.{cond-true, cond-false, and_from, and_parts, cases_Bool}
 use Rattle.std.proofs.lemmas.Bool.Decides.{nat_tests}

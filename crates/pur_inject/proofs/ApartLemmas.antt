@@ -1,5 +1,5 @@
 -- Elements that stand in no paragraph stay as they are.
-use Rattle.std.proofs.Common.{◌≡◌, true, not, List, refl, ap, ◌∙◌}
+use Rattle.std.proofs.Common.{◌≡◌, true, not, refl, ap, ◌∙◌}
 use Rattle.std.specs.List.{list_all}
 use Rattle.std.proofs.lemmas.Bool.{and_parts, and_from}
 use Rattle.pur_modules.specs.declared.kinds.Doctype.{Doctype}

@@ -1,11 +1,11 @@
 -- Links and paragraphs, one after the other.
-use Rattle.std.proofs.Common.{◌≡◌, Bool, true, false, List, ℕ, refl, sym, ap, ◌∙◌}
+use Rattle.std.proofs.Common.{◌≡◌, Bool, true, false, refl, sym, ap, ◌∙◌}
 use Rattle.std.specs.Prelude.{if◌then◌else◌, ◌||◌}
 use Rattle.std.proofs.lemmas.Bool.{not-true, or_parts}
 use Rattle.pur_settings.specs.Rules.{Rules}
 use Rattle.pur_uripolicy.specs.HostRules.{PlainHostRule}
 use Rattle.pur_tree.specs.Nodes.{Nodes, is_joined, is_sound}
-use Rattle.pur_inject.specs.Injected.{injected, injects_nothing}
+use Rattle.pur_inject.specs.Injected.{injected}
 use Rattle.pur_inject.specs.Laws.{names_alone, InjectsNothing}
 use Rattle.pur_inject.specs.Links.{linked, link_place_of, makes_links, may_be_linked, with_links}
 use Rattle.pur_inject.specs.Paragraphs.{in_paragraphs, makes_paragraphs, with_paragraphs}

@@ -1,9 +1,9 @@
 -- Without a colon there is no address.
-use Rattle.std.proofs.Common.{◌≡◌, ℕ, suc, ◌<◌, Bool, true, false, not, ◌&&◌, ◌||◌, List, [], ◌∷◌, length, take, refl, sym, ap, ◌∙◌, arith, nat_eq}
+use Rattle.std.proofs.Common.{◌≡◌, ℕ, suc, Bool, true, false, not, ◌&&◌, List, [], ◌∷◌, length, take, refl, sym, ap, ◌∙◌, arith, nat_eq}
 use Rattle.std.specs.Prelude.{if◌then◌else◌, ◌==◌, codes}
 use Rattle.std.specs.Char.{is_ascii_alphanumeric}
 use Rattle.std.specs.Cmp.Lexicographic.{pointwise}
-use Rattle.std.specs.List.{list_all, list_any, starts_with}
+use Rattle.std.specs.List.{list_all, starts_with}
 use Rattle.std.proofs.lemmas.Bool.{and_parts, and_from}
 use Rattle.std.proofs.lemmas.Bool.Decides.{nat_tests}
 use Rattle.pur_tree.specs.Nodes.{Nodes, no_nodes, text_first, elem_first, nodes_append}
@@ -16,7 +16,7 @@ use Rattle.pur_inject.specs.Runs.{front_run, later_runs, runs_of}
 use Rattle.pur_inject.specs.Signs.{letter, letters}
 use Rattle.pur_inject.specs.declared.places.LinkPlace.{LinkPlace}
 use Rattle.pur_inject.proofs.AddressLemmas.{place-later}
-use Rattle.pur_inject.proofs.LinkLemmas.{link-none, no_link, no_links, text-stays}
+use Rattle.pur_inject.proofs.LinkLemmas.{link-none, no_link, text-stays}
 
 same-colon : (x y : ℕ) → nat_eq x y ≡ true → not (y == 0x3A) ≡ true → not (x == 0x3A) ≡ true
 same-colon x y same other = grind (arith, nat_tests)

@@ -5,13 +5,12 @@ use Rattle.std.specs.List.{list_all, prefix_len}
 use Rattle.std.specs.Str.{chars, IsCharBoundary}
 use Rattle.std.proofs.lemmas.Bool.{cases_lt, cond-true}
 use Rattle.std.proofs.lemmas.Bool.Decides.{nat_tests}
-use Rattle.std.proofs.lemmas.List.{length-take-le}
 use Rattle.std.proofs.lemmas.List.Sums.{prefix_len-le-length, prefix_len_stops}
 use Rattle.std.proofs.lemmas.Str.{chars-nil, chars-append, encodes-chars, encode_ascii}
 use Rattle.pur_laws.proofs.Ends.{front_boundary, front_gone}
 use Rattle.pur_laws.proofs.Lists.{all-prefix, all-weaker}
 use Rattle.pur_laws.proofs.Sequences.{high_bytes, some_bytes}
-use Rattle.pur_laws.proofs.Texts.{is_ascii, chars_ascii, text_passes, some_chars}
+use Rattle.pur_laws.proofs.Texts.{is_ascii, chars_ascii, text_passes}
 use Rattle.pur_inject.specs.Private.Cutting.{is_over, says}
 
 own-says : (test : ℕ → Bool) (c : ℕ) → says test (test c) c ≡ true

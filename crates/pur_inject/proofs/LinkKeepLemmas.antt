@@ -1,11 +1,8 @@
 -- What links keep.
-use Rattle.std.proofs.Common.{◌≡◌, ℕ, ◌+◌, ◌-◌, ◌<◌, ◌≤◌, Bool, true, false, not, ◌&&◌, ◌||◌, List, [], ◌∷◌, ◌++◌, length, refl, sym, ap, subst, ◌∙◌, arith, length-append}
+use Rattle.std.proofs.Common.{◌≡◌, ℕ, ◌+◌, ◌-◌, ◌<◌, Bool, true, false, not, ◌&&◌, ◌||◌, List, [], ◌∷◌, refl, sym, ap, ◌∙◌, arith}
 use Rattle.std.specs.Prelude.{if◌then◌else◌, nat_lt}
-use Rattle.std.specs.List.{list_all}
 use Rattle.std.proofs.lemmas.Bool.{and_parts, and_from, not-true}
 use Rattle.std.proofs.lemmas.Bool.Decides.{nat_tests}
-use Rattle.pur_laws.proofs.Lists.{all-append}
-use Rattle.pur_text.specs.Characters.{is_allowed}
 use Rattle.pur_names.specs.declared.attributes.Attr.TheVariants.{Href}
 use Rattle.pur_names.specs.declared.elements.Element.{Element}
 use Rattle.pur_names.specs.declared.elements.Element.TheVariants.{A}
@@ -14,10 +11,8 @@ use Rattle.pur_modules.specs.declared.kinds.Doctype.{Doctype}
 use Rattle.pur_modules.specs.Contents.{is_excluded, is_excluded_in}
 use Rattle.pur_modules.specs.Expressions.{is_letter}
 use Rattle.pur_settings.specs.Rules.{Rules, permits_attribute, permits_element}
-use Rattle.pur_attrlist.specs.Attributes.{Attribute}
-use Rattle.pur_tree.specs.Forests.{IsForest}
 use Rattle.pur_tree.specs.Nodes.{PlainElem, Nodes, no_nodes, text_first, elem_first, nodes_append, is_joined, starts_with_text}
-use Rattle.pur_tree.specs.Places.{Place, level_limit, fragment, rise}
+use Rattle.pur_tree.specs.Places.{level_limit, fragment, rise}
 use Rattle.pur_tree.specs.Properties.{Property, Holds, levels, soundness, free, permitted, pictures, allowed, distinct}
 use Rattle.pur_tree.specs.Walks.{count_in_text}
 use Rattle.pur_tree.proofs.HoldsLemmas.{Holds-append, levels-test, test-levels, soundness-test, test-soundness, allowed-test, test-allowed, distinct-test, test-distinct}
@@ -28,7 +23,7 @@ use Rattle.pur_inject.specs.Addresses.{is_address}
 use Rattle.pur_inject.specs.Laws.{Keeps, elems}
 use Rattle.pur_inject.specs.Links.{is_address_sign, link_to, link_sign, linked, linked_run, linked_text, link_place_inside, link_place_of, takes_links, makes_links, may_be_linked, with_links}
 use Rattle.pur_inject.specs.Runs.{with_runs}
-use Rattle.pur_inject.specs.Signs.{letter, letters, nodes_from}
+use Rattle.pur_inject.specs.Signs.{letters}
 use Rattle.pur_inject.specs.declared.places.LinkPlace.{LinkPlace}
 use Rattle.pur_inject.proofs.LinkLemmas.{text-count, text-each}
 use Rattle.pur_inject.proofs.RunLemmas.{Each}

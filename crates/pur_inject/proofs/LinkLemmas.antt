@@ -1,22 +1,22 @@
 -- Links in runs of address characters, and the texts round them.
-use Rattle.std.proofs.Common.{◌≡◌, ℕ, zero, suc, ◌+◌, ◌-◌, ◌≤◌, Bool, true, false, not, ◌&&◌, ◌||◌, List, [], ◌∷◌, ◌++◌, length, take, drop, map, refl, sym, ap, subst, ◌∙◌, arith, append_assoc, append-nil, take-append-drop}
+use Rattle.std.proofs.Common.{◌≡◌, ℕ, zero, suc, ◌+◌, ◌-◌, ◌≤◌, Bool, true, false, not, ◌&&◌, List, [], ◌∷◌, ◌++◌, length, take, drop, refl, sym, ap, subst, ◌∙◌, arith, take-append-drop}
 use Rattle.std.specs.Prelude.{if◌then◌else◌, sum_by}
 use Rattle.std.specs.List.{list_all, suffix_len}
 use Rattle.std.proofs.Math.ListN.{drop_of_length-le}
-use Rattle.std.proofs.lemmas.Bool.{and_parts, and_from, not-true, cond-true, cond-false}
+use Rattle.std.proofs.lemmas.Bool.{and_parts, not-true, cond-false}
 use Rattle.std.proofs.lemmas.List.Sums.{sum_by-cons}
 use Rattle.pur_laws.proofs.Lists.{all-take, all-drop}
 use Rattle.pur_attrlist.specs.Texts.{times}
 use Rattle.pur_attrlist.proofs.TextLaws.{times-append}
-use Rattle.pur_tree.specs.Nodes.{Nodes, no_nodes, text_first}
+use Rattle.pur_tree.specs.Nodes.{no_nodes, text_first}
 use Rattle.pur_tree.specs.Walks.{count_in_text}
 use Rattle.pur_inject.specs.Addresses.{is_address_character, is_address, is_end_mark, address_place, before_address, from_address, without_end_marks, end_marks_of}
 use Rattle.pur_inject.specs.Links.{has_link, is_address_sign, link_sign, linked_run, linked_text, text_of}
 use Rattle.pur_inject.specs.Runs.{runs_of, with_runs}
 use Rattle.pur_inject.specs.Signs.{Sign, letter, element, blank_line, letters, nodes_from}
 use Rattle.pur_inject.proofs.AddressLemmas.{all-marks, place-before, place-marks}
-use Rattle.pur_inject.proofs.RunLemmas.{Each, each-append, all_pass, pass-split, pass-run, with-left, with-size, with-stays, each-with}
-use Rattle.pur_inject.proofs.SignLemmas.{count-adds, count-letters, letters-none, letters-each}
+use Rattle.pur_inject.proofs.RunLemmas.{Each, each-append, pass-split, pass-run, with-left, with-size, with-stays, each-with}
+use Rattle.pur_inject.proofs.SignLemmas.{count-adds, count-letters, letters-none}
 
 pub text-letters : (s : List ℕ) → text_of (letters s) ≡ s
 text-letters [] = refl

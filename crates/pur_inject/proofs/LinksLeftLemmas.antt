@@ -1,5 +1,5 @@
 -- No link is left to be made in nodes.
-use Rattle.std.proofs.Common.{◌≡◌, ℕ, ◌-◌, ◌≤◌, ◌<◌, Bool, true, false, not, ◌&&◌, ◌||◌, List, [], ◌∷◌, ◌++◌, length, refl, sym, ap, subst, ◌∙◌, arith, append_assoc, append-nil}
+use Rattle.std.proofs.Common.{◌≡◌, ℕ, ◌≤◌, Bool, true, false, not, ◌&&◌, ◌||◌, List, [], ◌∷◌, ◌++◌, refl, sym, ap, subst, ◌∙◌, arith, append_assoc, append-nil}
 use Rattle.std.specs.Prelude.{if◌then◌else◌, nat_lt}
 use Rattle.std.specs.List.{list_all}
 use Rattle.std.proofs.lemmas.Bool.{and_parts, and_from}
@@ -13,7 +13,7 @@ use Rattle.pur_modules.specs.declared.kinds.Child.TheVariants.{Elem}
 use Rattle.pur_modules.specs.declared.kinds.Doctype.{Doctype}
 use Rattle.pur_modules.specs.Contents.{content_held, is_excluded}
 use Rattle.pur_modules.specs.Expressions.{is_letter}
-use Rattle.pur_tree.specs.Nodes.{PlainElem, Nodes, no_nodes, text_first, elem_first, nodes_append, is_joined, starts_with_text}
+use Rattle.pur_tree.specs.Nodes.{Nodes, no_nodes, text_first, elem_first, nodes_append, is_joined, starts_with_text}
 use Rattle.pur_tree.specs.Places.{rise}
 use Rattle.pur_inject.specs.Laws.{names_alone}
 use Rattle.pur_inject.specs.Links.{is_address_sign, link_sign, link_place_inside, linked, linked_text, takes_links}

@@ -10,7 +10,7 @@ use Rattle.pur_text.specs.Characters.{is_blank}
 use Rattle.pur_names.specs.declared.elements.Element.TheVariants.{P}
 use Rattle.pur_modules.specs.declared.kinds.Doctype.{Doctype}
 use Rattle.pur_modules.specs.declared.kinds.Doctype.TheVariants.{Strict, Transitional}
-use Rattle.pur_tree.specs.Nodes.{PlainElem, bare, Nodes, no_nodes, text_first, elem_first, is_joined, is_sound, level_in, starts_with_text}
+use Rattle.pur_tree.specs.Nodes.{bare, Nodes, no_nodes, text_first, elem_first, is_joined, is_sound, level_in, starts_with_text}
 use Rattle.pur_tree.specs.Places.{Place, fragment, inside, level_limit}
 use Rattle.pur_tree.specs.Walks.{text_joined}
 use Rattle.pur_inject.specs.Laws.{names_alone}

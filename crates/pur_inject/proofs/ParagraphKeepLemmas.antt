@@ -1,8 +1,8 @@
 -- What paragraphs keep.
-use Rattle.std.proofs.Common.{◌≡◌, ℕ, ◌+◌, ◌<◌, ◌≤◌, Bool, true, false, not, ◌&&◌, ◌||◌, List, [], ◌∷◌, ◌++◌, length, refl, sym, ap, subst, ◌∙◌, arith}
+use Rattle.std.proofs.Common.{◌≡◌, ℕ, ◌+◌, ◌≤◌, Bool, true, false, not, ◌&&◌, ◌||◌, List, [], ◌∷◌, refl, ap, ◌∙◌, arith}
 use Rattle.std.specs.Prelude.{if◌then◌else◌, nat_le, sum_by, ◌==◌}
 use Rattle.std.specs.List.{list_all}
-use Rattle.std.proofs.lemmas.Bool.{and_parts, and_from}
+use Rattle.std.proofs.lemmas.Bool.{and_parts}
 use Rattle.std.proofs.lemmas.Bool.Decides.{nat_tests}
 use Rattle.std.proofs.lemmas.List.Sums.{sum_by-cons}
 use Rattle.pur_names.specs.declared.elements.Element.{Element}
@@ -10,7 +10,7 @@ use Rattle.pur_names.specs.declared.elements.Element.TheVariants.{P}
 use Rattle.pur_modules.specs.declared.kinds.Doctype.{Doctype}
 use Rattle.pur_modules.specs.Contents.{is_excluded, is_excluded_in}
 use Rattle.pur_settings.specs.Rules.{Rules, permits_element}
-use Rattle.pur_tree.specs.Nodes.{PlainElem, bare, Nodes, no_nodes, text_first, elem_first, is_joined, level_in}
+use Rattle.pur_tree.specs.Nodes.{bare, Nodes, no_nodes, text_first, elem_first, is_joined, level_in}
 use Rattle.pur_tree.specs.Places.{level_limit, fragment, inside}
 use Rattle.pur_tree.specs.Properties.{Property, Holds, levels, soundness, free, permitted, pictures, allowed, distinct}
 use Rattle.pur_tree.specs.Walks.{count_in_text}
@@ -19,7 +19,7 @@ use Rattle.pur_attrlist.specs.Texts.{times}
 use Rattle.pur_inject.specs.Laws.{Keeps}
 use Rattle.pur_inject.specs.Paragraphs.{are_blank, in_paragraphs, is_flow, is_line_feed, is_line_feed_sign, is_paragraph, lost_in_paragraphs, lost_in_run, makes_paragraphs, marked_run, stands_in_paragraphs, with_blank_lines, with_paragraphs, wrapped_run}
 use Rattle.pur_inject.specs.Runs.{front_run, later_runs, runs_of, with_runs}
-use Rattle.pur_inject.specs.Signs.{Sign, letter, element, blank_line, letters, signs_of, nodes_from, two_line_feeds}
+use Rattle.pur_inject.specs.Signs.{Sign, letter, element, blank_line, signs_of, nodes_from, two_line_feeds}
 use Rattle.pur_inject.proofs.RunLemmas.{Each, each-with, front-all, with-size}
 use Rattle.pur_inject.proofs.SignLemmas.{JoinedInside, OfSign, TextProperty, allowed-text, count-adds, count-signs, from-joined, hold-signs, joined-signs, quiet, signs-hold, sound-text}
 

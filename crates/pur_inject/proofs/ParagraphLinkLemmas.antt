@@ -1,5 +1,5 @@
 -- Paragraphs bring up no link: line feeds are no address characters, and what stands in a paragraph stood in a piece.
-use Rattle.std.proofs.Common.{◌≡◌, ℕ, ◌-◌, ◌≤◌, Bool, true, false, not, ◌&&◌, ◌||◌, List, [], ◌∷◌, ◌++◌, Some, None, refl, sym, ap, subst, ◌∙◌, arith}
+use Rattle.std.proofs.Common.{◌≡◌, ℕ, Bool, true, false, not, ◌&&◌, List, [], ◌∷◌, ◌++◌, Some, refl, sym, ap, ◌∙◌, arith}
 use Rattle.std.specs.Prelude.{Option, if◌then◌else◌, unwrap_or}
 use Rattle.std.specs.List.{list_all}
 use Rattle.std.proofs.lemmas.Bool.{and_parts, and_from, not-true, cond-false}
@@ -16,14 +16,12 @@ use Rattle.pur_modules.specs.Contents.{Holding, content_held, content_in, doctyp
 use Rattle.pur_modules.specs.Expressions.{is_letter, child_letters}
 use Rattle.pur_modules.specs.Groups.{is_among, inline, misc}
 use Rattle.pur_settings.specs.Rules.{Rules, permits_element}
-use Rattle.pur_uripolicy.specs.HostRules.{PlainHostRule}
 use Rattle.pur_tree.specs.Nodes.{Nodes, bare, is_joined}
 use Rattle.pur_tree.specs.Places.{rise}
-use Rattle.pur_inject.specs.Addresses.{is_address_character}
-use Rattle.pur_inject.specs.Links.{is_address_sign, link_place_inside, link_place_of, may_be_linked, takes_links}
-use Rattle.pur_inject.specs.Paragraphs.{in_paragraphs, is_flow, is_in_paragraphs, is_line_feed, is_line_feed_sign, is_paragraph, makes_paragraphs, marked_run, stands_in_paragraphs, with_blank_lines, with_paragraphs, wrapped_run}
+use Rattle.pur_inject.specs.Links.{is_address_sign, link_place_inside, link_place_of, takes_links}
+use Rattle.pur_inject.specs.Paragraphs.{in_paragraphs, is_flow, is_in_paragraphs, is_line_feed_sign, is_paragraph, makes_paragraphs, marked_run, stands_in_paragraphs, with_blank_lines, with_paragraphs, wrapped_run}
 use Rattle.pur_inject.specs.Runs.{front_run, later_runs, runs_of, behind_run, with_runs}
-use Rattle.pur_inject.specs.Signs.{Sign, letter, element, blank_line, letters, signs_of, nodes_from}
+use Rattle.pur_inject.specs.Signs.{Sign, letter, element, blank_line, signs_of, nodes_from}
 use Rattle.pur_inject.specs.declared.places.LinkPlace.{LinkPlace}
 use Rattle.pur_inject.proofs.LinkLemmas.{no_link, no_links}
 use Rattle.pur_inject.proofs.LinksLeftLemmas.{KidsLeft, Narrower, kids-left, left-narrower, left-signs, links_left, signs-left}

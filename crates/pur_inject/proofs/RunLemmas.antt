@@ -4,7 +4,7 @@ use Rattle.std.specs.Prelude.{if◌then◌else◌, ◌&&◌, not, sum_by}
 use Rattle.std.specs.List.{list_all}
 use Rattle.std.proofs.lemmas.Bool.{and_parts, and_from, not-true}
 use Rattle.std.proofs.lemmas.List.{map-append}
-use Rattle.std.proofs.lemmas.List.Sums.{sum_by-cons, sum_by-append}
+use Rattle.std.proofs.lemmas.List.Sums.{sum_by-cons}
 use Rattle.pur_laws.proofs.Lists.{all-append, all-parts}
 use Rattle.pur_inject.specs.Runs.{front_run, later_runs, runs_of, behind_run, with_runs}
 use Rattle.pur_inject.specs.Signs.{Sign}

@@ -1,5 +1,5 @@
 -- Nodes as signs, and signs as nodes.
-use Rattle.std.proofs.Common.{◌≡◌, ℕ, ◌+◌, ◌<◌, Bool, true, false, not, ◌&&◌, ◌||◌, List, [], ◌∷◌, ◌++◌, length, map, refl, sym, ap, ◌∙◌, arith, append_assoc, append-nil, length-append}
+use Rattle.std.proofs.Common.{◌≡◌, ℕ, ◌+◌, ◌<◌, true, not, ◌&&◌, ◌||◌, List, [], ◌∷◌, ◌++◌, length, refl, sym, ap, ◌∙◌, arith, append_assoc, length-append}
 use Rattle.std.specs.Prelude.{nat_lt}
 use Rattle.std.specs.List.{list_all}
 use Rattle.std.proofs.lemmas.Bool.{and_parts, and_from}
@@ -7,7 +7,7 @@ use Rattle.std.proofs.lemmas.List.{map-append}
 use Rattle.pur_laws.proofs.Lists.{all-append}
 use Rattle.pur_text.specs.Characters.{is_allowed}
 use Rattle.pur_modules.specs.Contents.{is_empty_element}
-use Rattle.pur_tree.specs.Nodes.{PlainElem, Nodes, no_nodes, text_first, elem_first, nodes_append, is_joined, is_sound, starts_with_text, has_no_nodes}
+use Rattle.pur_tree.specs.Nodes.{PlainElem, Nodes, no_nodes, text_first, elem_first, is_joined, is_sound, starts_with_text, has_no_nodes}
 use Rattle.pur_tree.specs.Properties.{Property, Holds, soundness, allowed}
 use Rattle.pur_tree.specs.Walks.{text_joined, count_in_text}
 use Rattle.pur_tree.proofs.WalkLemmas.{text_joined-append, count_in_text-text_joined}

@@ -23,7 +23,7 @@ use Rattle.pur_models.specs.Laws.{IsFieldsetWord, takes_any_number}
 use Rattle.pur_models.proofs.WordLemmas.{any_letters, fieldset_of_parts, parts_of_fieldset, words_are_allowed}
 use Rattle.pur_settings.specs.Rules.{Rules}
 use Rattle.pur_uripolicy.specs.HostRules.{PlainHostRule}
-use Rattle.pur_tree.specs.Nodes.{PlainElem, bare, Nodes, no_nodes, text_first, elem_first, nodes_append}
+use Rattle.pur_tree.specs.Nodes.{bare, Nodes, no_nodes, text_first, elem_first, nodes_append}
 use Rattle.pur_tree.specs.Walks.{text_joined}
 use Rattle.pur_tree.specs.Words.{word_of, IsWord, HaveWords}
 use Rattle.pur_inject.specs.Laws.{KeepsWords}

@@ -1,4 +1,4 @@
-use Rattle.std.proofs.Common.{◌≡◌, true, Bool, refl, ap, sym, ◌∙◌, string_bytes}
+use Rattle.std.proofs.Common.{Bool, ap, sym, ◌∙◌}
 use Rattle.std.specs.Prelude.{◌&&◌}
 use Rattle.std.specs.Str.{chars}
 use Rattle.pur_tree.proofs.NodeLemmas.{before_text, before_elem}

@@ -1,11 +1,11 @@
 -- A run of address characters is linked where it has an address that may be.
-use Rattle.std.proofs.Common.{◌≡◌, ◌∙◌, ◌∷◌, ◌++◌, Bool, ℕ, List, true, false, ap, sym, refl}
+use Rattle.std.proofs.Common.{◌≡◌, ◌∙◌, ◌∷◌, ◌++◌, Bool, ℕ, List, true, false, ap, sym}
 use Rattle.std.specs.Prelude.{◌&&◌, if◌then◌else◌}
 use Rattle.std.specs.Str.{chars}
 use Rattle.pur_tree.specs.Image.{nodes_of}
-use Rattle.pur_tree.specs.Nodes.{Nodes, elem_first, text_first, no_nodes}
+use Rattle.pur_tree.specs.Nodes.{elem_first, text_first, no_nodes}
 use Rattle.pur_inject.specs.Addresses.{before_address, end_marks_of, from_address, is_address, without_end_marks}
-use Rattle.pur_inject.specs.Links.{has_link, link_sign, link_to, linked_run, may_be_linked, text_of}
+use Rattle.pur_inject.specs.Links.{has_link, link_sign, link_to, linked_run, may_be_linked}
 use Rattle.pur_inject.specs.Private.Growing.{grown}
 use Rattle.pur_inject.specs.Signs.{Sign, letters, signs_before}
 use Rattle.pur_inject.proofs.LinkLemmas.{text-letters}

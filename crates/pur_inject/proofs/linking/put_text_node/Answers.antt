@@ -3,7 +3,7 @@ use Rattle.std.specs.Str.{chars}
 use Rattle.std.proofs.lemmas.Str.{IsUtf8-string_bytes}
 use Rattle.pur_laws.proofs.Texts.{some_chars}
 use Rattle.pur_tree.specs.Image.{nodes_of}
-use Rattle.pur_tree.specs.Nodes.{Nodes, no_nodes, nodes_append}
+use Rattle.pur_tree.specs.Nodes.{nodes_append}
 use Rattle.pur_tree.proofs.NodesLemmas.{nodes_append-assoc}
 use Rattle.pur_inject.specs.Links.{is_address_sign, linked_run, linked_text, may_be_linked}
 use Rattle.pur_inject.specs.Private.Cutting.{is_colonless}

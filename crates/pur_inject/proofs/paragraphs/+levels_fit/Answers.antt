@@ -1,8 +1,8 @@
-use Rattle.std.proofs.Common.{◌≡◌, ◌+◌, ◌<◌, ◌∙◌, ◌∷◌, ◌≤◌, Bool, false, ap, sym, drop, length, arith}
+use Rattle.std.proofs.Common.{◌≡◌, ◌+◌, ◌<◌, ◌∙◌, ◌∷◌, Bool, false, ap, sym, drop, length, arith}
 use Rattle.std.specs.Prelude.{nat_le, if◌then◌else◌}
 use Rattle.std.proofs.lemmas.List.{drop_more}
 use Rattle.pur_tree.specs.Image.{nodes_of, node_before}
-use Rattle.pur_tree.specs.Nodes.{plain_elem, level_in}
+use Rattle.pur_tree.specs.Nodes.{level_in}
 use Rattle.pur_tree.specs.Places.{inside, level_limit}
 use Rattle.pur_tree.proofs.NodeLemmas.{before_text, before_elem}
 use Rattle.pur_inject.proofs.LevelLemmas.{elem-fits, elem-too-deep, place_at}

@@ -2,7 +2,6 @@ use Rattle.std.proofs.Common.{ap, sym, ◌∙◌, string_bytes}
 use Rattle.std.specs.Str.{chars}
 use Rattle.std.specs.Vec.Iter.{into_iter_items}
 use Rattle.pur_tree.specs.Image.{nodes_of, node_before}
-use Rattle.pur_tree.specs.Nodes.{plain_elem}
 use Rattle.pur_tree.proofs.NodeLemmas.{before_text, before_elem}
 use Rattle.pur_tree.proofs.PushLemmas.{none_left}
 use Rattle.pur_inject.specs.Private.Growing.{grown}

@@ -2,7 +2,7 @@ use Rattle.std.proofs.Common.{◌≡◌, ◌∙◌, [], Bool, true, false, ap, s
 use Rattle.std.specs.Prelude.{if◌then◌else◌}
 use Rattle.pur_names.specs.declared.elements.Element.TheVariants.{P}
 use Rattle.pur_tree.specs.Image.{nodes_of}
-use Rattle.pur_tree.specs.Nodes.{Nodes, bare, plain_elem, no_nodes, elem_first}
+use Rattle.pur_tree.specs.Nodes.{bare, no_nodes, elem_first}
 use Rattle.pur_inject.specs.Paragraphs.{is_paragraph}
 use Rattle.pur_inject.specs.Private.Growing.{grown}
 use Rattle.pur_inject.specs.Signs.{signs_before, signs_of}

@@ -1,12 +1,11 @@
-use Rattle.std.proofs.Common.{◌≡◌, ◌∙◌, ◌∷◌, ◌++◌, ◌<◌, ◌≤◌, ℕ, Bool, true, false, List, [], length, refl, ap, sym, arith, rules, codes}
+use Rattle.std.proofs.Common.{◌≡◌, ◌∙◌, ◌∷◌, ◌++◌, ◌<◌, ◌≤◌, Bool, [], length, refl, ap, sym, arith}
 use Rattle.std.specs.Prelude.{if◌then◌else◌}
 use Rattle.std.specs.Str.{chars}
 use Rattle.pur_laws.proofs.Texts.{chars_ascii}
-use Rattle.pur_tree.specs.Nodes.{Nodes, no_nodes}
 use Rattle.pur_inject.specs.Paragraphs.{marked_run}
 use Rattle.pur_inject.specs.Private.Growing.{grown}
-use Rattle.pur_inject.specs.Private.Standing.{ahead, piece_before}
-use Rattle.pur_inject.specs.Signs.{Sign, blank_line, letters, sign_before, signs_before, two_line_feeds}
+use Rattle.pur_inject.specs.Private.Standing.{ahead}
+use Rattle.pur_inject.specs.Signs.{blank_line, letters, sign_before, signs_before, two_line_feeds}
 use Rattle.pur_inject.proofs.GrowingLemmas.{all-stand, ends, goes-on, marked-long, marked-one}
 use Rattle.pur_inject.proofs.SignLemmas.{letters-before}
 use Rattle.pur_inject.proofs.paragraphs.Paragraphs.put_run.Goals as goal
