@@ -192,7 +192,7 @@ fn missing_texts_are_not_read(rt: HostRuntime) -> Result<(), Fail> {
 }
 
 // Words that name no command, each with a name.
-static NO_COMMANDS: [(&str, &str); 30] = [
+static NO_COMMANDS: [(&str, &str); 37] = [
     ("two_inputs", "rules rules"),
     ("two_inputs_with_an_option_between", "rules --check rules"),
     ("no_settings_named", "--settings"),
@@ -226,6 +226,13 @@ static NO_COMMANDS: [(&str, &str); 30] = [
     ("a_sample_and_a_check", "--check --sample 1"),
     ("a_sample_and_settings", "--sample 1 --settings rules"),
     ("a_sample_and_an_input", "--sample 1 rules"),
+    ("a_sheet_without_a_scope", "--sheet"),
+    ("a_sheet_for_an_empty_scope", "--sheet "),
+    ("a_scope_that_begins_with_a_digit", "--sheet 1s"),
+    ("a_scope_with_a_point", "--sheet s.t"),
+    ("a_sheet_twice", "--sheet s --sheet s"),
+    ("a_sheet_and_a_check", "--sheet s --check"),
+    ("a_sheet_and_a_sample", "--sheet s --sample 1"),
 ];
 
 fn is_no_command(alloc: Global, line: &str) -> Result<bool, AllocError> {

@@ -61,7 +61,7 @@ fn is_named(command: &Command, row: &Row) -> bool {
             settings: file,
             input: text,
         } => *is_check && file.as_deref() == *settings && text.as_deref() == *input,
-        Command::Sample(_) => false,
+        Command::Sheet { .. } | Command::Sample(_) => false,
     }
 }
 
@@ -90,6 +90,55 @@ fn all_are_named(alloc: Global) -> Result<bool, AllocError> {
 fn words_name_files(rt: HostRuntime) -> Result<(), Fail> {
     let are_named = all_are_named(rt.alloc())?;
     assert!(rt; are_named);
+    Ok(())
+}
+
+// Words, the scope, the settings and the input.
+static SHEETS: [(&str, &str, Option<&str>, Option<&str>); 4] = [
+    ("--sheet s", "s", None, None),
+    ("a --sheet=S-1_ --settings b", "S-1_", Some("b"), Some("a")),
+    ("--settings b --sheet s", "s", Some("b"), None),
+    ("--sheet s -- -a", "s", None, Some("-a")),
+];
+
+fn names_sheet(
+    alloc: Global,
+    line: &str,
+    scope: &str,
+    settings: Option<&str>,
+    input: Option<&str>,
+) -> Result<bool, AllocError> {
+    let words = words_of(alloc, Some(line))?;
+    match read_words(alloc, words.as_slice())? {
+        Some(command) => Ok(is_sheet(&command, scope, settings, input)),
+        None => Ok(false),
+    }
+}
+
+fn is_sheet(command: &Command, name: &str, file: Option<&str>, text: Option<&str>) -> bool {
+    match command {
+        Command::Sheet {
+            scope,
+            settings,
+            input,
+        } => scope.as_str() == name && settings.as_deref() == file && input.as_deref() == text,
+        _ => false,
+    }
+}
+
+fn first_other_sheet(alloc: Global) -> Result<Option<&'static str>, AllocError> {
+    for (line, scope, settings, input) in &SHEETS {
+        if !names_sheet(alloc, line, scope, *settings, *input)? {
+            return Ok(Some(*line));
+        }
+    }
+    Ok(None)
+}
+
+#[test]
+fn words_name_sheets(rt: HostRuntime) -> Result<(), Fail> {
+    let other = first_other_sheet(rt.alloc())?;
+    assert_eq!(rt; other, None);
     Ok(())
 }
 
