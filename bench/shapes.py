@@ -137,3 +137,10 @@ KINDS = {
     "good styles": repeated(b'<b style="color:#ff0000;">a</b>'),
     "good escapes": repeated(b"&amp;"),
 }
+
+# The most bytes that a kind may hold for one of its input, where that isn't 50. Where blank lines make paragraphs, `a` and two line
+# feeds are an element, a text in it and a text behind it: three bytes of which the tree alone takes 240.
+HELD = {
+    "a page of articles": 16,
+    "letters and blank lines": 90,
+}
