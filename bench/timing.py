@@ -1,26 +1,29 @@
 """Runs a built program on inputs, and tells its processor time and its memory, for the scripts beside this file."""
 import os
 import subprocess
+import sys
 
 GNU_TIME = "/usr/bin/time"
 MIB = 1024 * 1024
 
 
-def milliseconds(command, path):
-    """The processor time of one run of the command over the file, in milliseconds."""
+def milliseconds(command, path, status=0):
+    """The processor time of one run of the command over the file, in milliseconds. It must end with the status."""
     child = os.fork()
     if child == 0:
         os.dup2(os.open(path, os.O_RDONLY), 0)
         os.dup2(os.open(os.devnull, os.O_WRONLY), 1)
         os.dup2(1, 2)
         os.execv(command[0], command)
-    usage = os.wait4(child, 0)[2]
+    _, ended, usage = os.wait4(child, 0)
+    if os.waitstatus_to_exitcode(ended) != status:
+        sys.exit(f"{' '.join(command)} ended with {os.waitstatus_to_exitcode(ended)}, and not with {status}, on {path}")
     return (usage.ru_utime + usage.ru_stime) * 1000
 
 
-def least(command, path, runs):
-    """The least processor time of some runs, in milliseconds."""
-    return min(milliseconds(command, path) for _ in range(runs))
+def least(command, path, runs, status=0):
+    """The least processor time of some runs, in milliseconds. Each must end with the status."""
+    return min(milliseconds(command, path, status) for _ in range(runs))
 
 
 def resident(command, path):

@@ -4,6 +4,13 @@
 
 mod home;
 
+ghost use Rattle.std.specs.Prelude.{◌≡◌, IfOk};
+ghost use Rattle.guestbook.specs.Home.{home};
+ghost use Rattle.pur_engine.specs.Ledger.{AddsNoText, KeepsLedger};
+ghost use Rattle.pur_engine.specs.Purified.{purified};
+ghost use Rattle.pur_engine.specs.Spelled.{IsSpelled};
+ghost use Rattle.pur_settings.specs.Rules.{default_rules};
+ghost use Rattle.pur_validity.specs.Goodness.{IsGood};
 ghost use Rattle.pur_uripolicy.specs.Asking.{AnswersBy};
 ghost use Rattle.pur_uripolicy.specs.HostRules.{admits};
 
@@ -32,7 +39,15 @@ fn main(rt: HostRuntime) -> io::Result<()> {
 }
 
 // An entry as the guest book shows it.
-fn clean_entry(alloc: Global, entry: &str) -> Result<Vec<u8>, AllocError> {
+fn clean_entry(alloc: Global, entry: &str) -> Result<Vec<u8>, AllocError>
+    ensures purified { IfOk result (λ text. text.items ≡ purified default_rules home entry.now) }
+    ensures spelled { IfOk result (λ text. IsSpelled text.items) }
+    ensures good { IfOk result (λ text. IsGood default_rules home text.items) }
+    ensures adds_no_text { IfOk result (λ text. AddsNoText default_rules home entry.now text.items) }
+    ensures ledger { IfOk result (λ text. KeepsLedger default_rules home entry.now text.items) }
+    ensures unchanged { IfOk result (λ text. IsGood default_rules home entry.now → text.items ≡ entry.now) }
+    ensures twice { IfOk result (λ text. purified default_rules home text.items ≡ text.items) }
+{
     let rule = home_rule(alloc)?;
     clean_by(alloc, &rule, |uri: &Uri| leads_home(uri), entry)
 }
@@ -45,7 +60,15 @@ fn clean_by<F: UriTest + Drop>(
     entry: &str,
 ) -> Result<Vec<u8>, AllocError>
     requires { AnswersBy F.may_ask F.answers filter (admits rule.now) }
+    ensures purified { IfOk result (λ text. text.items ≡ purified default_rules rule.now entry.now) }
+    ensures spelled { IfOk result (λ text. IsSpelled text.items) }
+    ensures good { IfOk result (λ text. IsGood default_rules rule.now text.items) }
+    ensures adds_no_text { IfOk result (λ text. AddsNoText default_rules rule.now entry.now text.items) }
+    ensures ledger { IfOk result (λ text. KeepsLedger default_rules rule.now entry.now text.items) }
+    ensures unchanged { IfOk result (λ text. IsGood default_rules rule.now entry.now → text.items ≡ entry.now) }
+    ensures twice { IfOk result (λ text. purified default_rules rule.now text.items ≡ text.items) }
 {
     let gate = UriGate::new(rule, filter);
-    purify(alloc, &Settings::defaults(), &gate, entry.as_bytes())
+    let settings = Settings::defaults();
+    purify(alloc, &settings, &gate, entry.as_bytes())
 }
