@@ -10,7 +10,7 @@ use pur_uripolicy::{HostRule, UriGate, UriTest, host_rule};
 use std::alloc::{AllocError, Global};
 
 // The purification of an input under settings, where a closure answers by their rule of hosts.
-fn gated<F: UriTest + Drop>(
+pub(crate) fn gated<F: UriTest + Drop>(
     alloc: Global,
     settings: &Settings,
     rule: &HostRule,
